@@ -1,0 +1,242 @@
+-- What a setter makes of an image: the image of the fields with one value changed. And images by their fields. Assumes nothing.
+use mathlib.Core.Path.{_≡_, refl, sym, ap, ap₂, _∙_}
+use mathlib.Core.Logic.{_≢_, inl, inr}
+use mathlib.Core.Bool.{Bool, true, false}
+use mathlib.Core.List.{List, [], _∷_, _++_}
+use Prim.Native.Nat.{ℕ, _+_, _-_, _*_, _/_, _%_, _^_, _<_}
+use native.Mathlib.Omega.{arith}
+use lib.ListN.{length, getD, set, replicate, length-set}
+use lib.Seq.{set-append-left}
+use lib.Bits.{bitAnd, bitOr}
+use Rattle.model.specs.Counting.{count, each, upd}
+use Rattle.model.specs.Bytes.{ownsAt, Fields, two, rowByte, image}
+use Rattle.model.proofs.Tests.{eq?}
+use Rattle.model.proofs.Prefix.{count-ext}
+use Rattle.model.proofs.Lists.{upd-same, upd-other}
+use Rattle.model.proofs.Chunks.{behind, each-length, each-at, each-one-length, each-one-at}
+use Rattle.model.proofs.Fields.{owns-image}
+use Rattle.layout.specs.Setters.{setTwo, setEdges, setRank, setMate, setPhi, own, disown}
+use Rattle.layout.specs.Rows.{degreeAt}
+use Rattle.layout.proofs.Pieces.{set-behind, each-ext, set-each, each-one-ext, set-each-one, rowByte-ext, rowByte-other, rowByte-or, rowByte-and}
+
+-- ---- the parts of an image
+
+two-length : (x : ℕ) → length (two x) ≡ 2
+unfolding two
+two-length x = refl
+
+module _ (f : Fields) where
+  abbrev heads : List ℕ
+  heads = two (f .n) ++ (two (f .edges) ++ replicate 4 0)
+
+  abbrev ranks : List ℕ
+  ranks = each 256 (λ v. f .rank v ∷ [])
+
+  abbrev mates : List ℕ
+  mates = each 256 (λ v. two (f .mate v))
+
+  abbrev phis : List ℕ
+  phis = each 256 (λ v. each 4 (λ j. f .phi v j ∷ []))
+
+  abbrev rows : List ℕ
+  rows = each 256 (λ v. each 32 (λ k. rowByte (f .owns v) k ∷ []))
+
+  parts : image f ≡ heads ++ (ranks ++ (mates ++ (phis ++ rows)))
+  unfolding image two
+  parts = refl
+
+  heads-length : length heads ≡ 8
+  unfolding two
+  heads-length = refl
+
+  ranks-length : length ranks ≡ 256
+  ranks-length = each-one-length (f .rank) 256
+
+  mates-length : length mates ≡ 512
+  mates-length = each-length 2 (λ v. two (f .mate v)) (λ v. two-length (f .mate v)) 256
+
+  phis-length : length phis ≡ 1024
+  phis-length = each-length 4 (λ v. each 4 (λ j. f .phi v j ∷ [])) (λ v. each-one-length (f .phi v) 4) 256
+
+  -- what is set behind some parts leaves those parts as they are
+  past-heads : (t : List ℕ) (i x : ℕ) → set (heads ++ t) (8 + i) x ≡ heads ++ set t i x
+  past-heads t i x = set-behind heads t 8 i x heads-length
+
+  past-ranks : (t : List ℕ) (i x : ℕ) → set (heads ++ (ranks ++ t)) (264 + i) x ≡ heads ++ (ranks ++ set t i x)
+  past-ranks t i x =
+      let e : 264 + i ≡ 8 + (256 + i) = omega arith in
+      ap (λ (k : ℕ). set (heads ++ (ranks ++ t)) k x) e ∙ past-heads (ranks ++ t) (256 + i) x
+      ∙ ap (λ (s : List ℕ). heads ++ s) (set-behind ranks t 256 i x ranks-length)
+
+  past-mates : (t : List ℕ) (i x : ℕ) → set (heads ++ (ranks ++ (mates ++ t))) (776 + i) x ≡ heads ++ (ranks ++ (mates ++ set t i x))
+  past-mates t i x =
+      let e : 776 + i ≡ 264 + (512 + i) = omega arith in
+      ap (λ (k : ℕ). set (heads ++ (ranks ++ (mates ++ t))) k x) e ∙ past-ranks (mates ++ t) (512 + i) x
+      ∙ ap (λ (s : List ℕ). heads ++ (ranks ++ s)) (set-behind mates t 512 i x mates-length)
+
+  past-phis : (t : List ℕ) (i x : ℕ)
+      → set (heads ++ (ranks ++ (mates ++ (phis ++ t)))) (1800 + i) x ≡ heads ++ (ranks ++ (mates ++ (phis ++ set t i x)))
+  past-phis t i x =
+      let e : 1800 + i ≡ 776 + (1024 + i) = omega arith in
+      ap (λ (k : ℕ). set (heads ++ (ranks ++ (mates ++ (phis ++ t)))) k x) e ∙ past-mates (phis ++ t) (1024 + i) x
+      ∙ ap (λ (s : List ℕ). heads ++ (ranks ++ (mates ++ s))) (set-behind phis t 1024 i x phis-length)
+
+  -- byte k of row v
+  row-byte : (v k : ℕ) → v < 256 → k < 32 → getD (image f) (1800 + (32 * v + k)) 0 ≡ rowByte (f .owns v) k
+  row-byte v k l c =
+      let i : ℕ = 32 * v + k in
+      let e : 1800 + i ≡ 8 + (256 + (512 + (1024 + i))) = omega arith in
+      ap₂ (λ (s : List ℕ) (m : ℕ). getD s m 0) parts e ∙ behind heads _ 8 (256 + (512 + (1024 + i))) heads-length
+      ∙ behind ranks _ 256 (512 + (1024 + i)) ranks-length ∙ behind mates _ 512 (1024 + i) mates-length
+      ∙ behind phis rows 1024 i phis-length
+      ∙ each-at 32 (λ v. each 32 (λ k. rowByte (f .owns v) k ∷ [])) (λ v. each-one-length (rowByte (f .owns v)) 32) 256 v k 0 l c
+      ∙ each-one-at (rowByte (f .owns v)) 32 k 0 c
+
+-- ---- images by their fields
+
+-- fields that are the same wherever an image shows them
+pub record Alike (f g : Fields) : Type 0 where
+  pub n : f .n ≡ g .n
+  pub edges : f .edges ≡ g .edges
+  pub rank : (v : ℕ) → v < 256 → f .rank v ≡ g .rank v
+  pub mate : (v : ℕ) → v < 256 → f .mate v ≡ g .mate v
+  pub phi : (v j : ℕ) → v < 256 → j < 4 → f .phi v j ≡ g .phi v j
+  pub owns : (v w : ℕ) → v < 256 → w < 256 → f .owns v w ≡ g .owns v w
+
+pub image-ext : (f g : Fields) → Alike f g → image f ≡ image g
+image-ext f g a =
+    let h : heads f ≡ heads g = ap₂ (λ (n e : ℕ). two n ++ (two e ++ replicate 4 0)) (a .n) (a .edges) in
+    let r : ranks f ≡ ranks g = each-one-ext (f .rank) (g .rank) 256 (a .rank) in
+    let m : mates f ≡ mates g = each-ext _ _ 256 (λ v l. ap two (a .mate v l)) in
+    let p : phis f ≡ phis g = each-ext _ _ 256 (λ v l. each-one-ext (f .phi v) (g .phi v) 4 (λ j k. a .phi v j l k)) in
+    let o : rows f ≡ rows g =
+    each-ext _ _ 256
+    (λ v l. each-one-ext (rowByte (f .owns v)) (rowByte (g .owns v)) 32
+    (λ k c. rowByte-ext (f .owns v) (g .owns v) k (λ b d. a .owns v (8 * k + b) l (omega arith)))) in
+    parts f ∙ rw (h, r, m, p, o) (sym (parts g))
+
+-- ---- fields with one value changed
+
+unfoldable pub withEdges : Fields → ℕ → Fields
+withEdges f x = record { n = f .n; edges = x; rank = f .rank; mate = f .mate; phi = f .phi; owns = f .owns }
+
+unfoldable pub withRank : Fields → ℕ → ℕ → Fields
+withRank f v x = record { n = f .n; edges = f .edges; rank = upd (f .rank) v x; mate = f .mate; phi = f .phi; owns = f .owns }
+
+unfoldable pub withMate : Fields → ℕ → ℕ → Fields
+withMate f v x = record { n = f .n; edges = f .edges; rank = f .rank; mate = upd (f .mate) v x; phi = f .phi; owns = f .owns }
+
+unfoldable pub withPhi : Fields → ℕ → ℕ → ℕ → Fields
+withPhi f v j x =
+    record { n = f .n; edges = f .edges; rank = f .rank; mate = f .mate; phi = upd (f .phi) v (upd (f .phi v) j x); owns = f .owns }
+
+unfoldable pub withOwns : Fields → ℕ → ℕ → Bool → Fields
+withOwns f v w b =
+    record { n = f .n; edges = f .edges; rank = f .rank; mate = f .mate; phi = f .phi; owns = upd (f .owns) v (upd (f .owns v) w b) }
+
+-- ---- each setter on an image
+
+pub setEdges-image : (f : Fields) (x : ℕ) → setEdges (image f) x ≡ image (withEdges f x)
+unfolding setEdges image two withEdges
+setEdges-image f x = refl
+
+pub setRank-image : (f : Fields) (v x : ℕ) → v < 256 → setRank (image f) v x ≡ image (withRank f v x)
+unfolding setRank withRank
+setRank-image f v x l =
+    let new : set (ranks f) v x ≡ ranks (withRank f v x) =
+    set-each-one (f .rank) (upd (f .rank) v x) 256 v x l (sym (upd-same (f .rank) v x v refl)) (λ u c d. sym (upd-other (f .rank) v x u d)) in
+    ap (λ (s : List ℕ). set s (8 + v) x) (parts f) ∙ past-heads f _ v x
+    ∙ ap (λ (s : List ℕ). heads f ++ s)
+    (set-append-left (ranks f) _ v x (omega (arith, ranks-length f)) ∙ ap (λ (s : List ℕ). s ++ (mates f ++ (phis f ++ rows f))) new)
+    ∙ sym (parts (withRank f v x))
+
+-- the entry for a mate has two bytes, set one after the other
+set-mates : (f : Fields) (v x : ℕ) → v < 256 → set (set (mates f) (2 * v + 0) (x % 256)) (2 * v + 1) (x / 256) ≡ mates (withMate f v x)
+unfolding withMate two
+set-mates f v x l =
+    let old : ℕ → List ℕ = λ u. two (f .mate u) in
+    let half : ℕ → List ℕ = upd old v (x % 256 ∷ f .mate v / 256 ∷ []) in
+    let new : ℕ → List ℕ = λ u. two (upd (f .mate) v x u) in
+    let same : half v ≡ x % 256 ∷ f .mate v / 256 ∷ [] = upd-same old v _ v refl in
+    let other : (u : ℕ) → u ≢ v → half u ≡ old u = upd-other old v _ in
+    let wide : (u : ℕ) → length (half u) ≡ 2 = λ u. elim (eq? u v) [
+      | inl e ↦ ap length (upd-same old v _ u e)
+      | inr d ↦ ap length (other u d)
+    ] in
+    ap (λ (s : List ℕ). set s (2 * v + 1) (x / 256))
+    (set-each 2 old half (λ u. refl) 256 v 0 (x % 256) l (omega arith) (sym same) (λ u c d. sym (other u d)))
+    ∙ set-each 2 half new wide 256 v 1 (x / 256) l (omega arith)
+    (ap (λ (s : List ℕ). set s 1 (x / 256)) same ∙ ap two (sym (upd-same (f .mate) v x v refl)))
+    (λ u c d. other u d ∙ ap two (sym (upd-other (f .mate) v x u d)))
+
+pub setMate-image : (f : Fields) (v x : ℕ) → v < 256 → setMate (image f) v x ≡ image (withMate f v x)
+unfolding setMate withMate
+setMate-image f v x l =
+    let low : 264 + 2 * v ≡ 264 + (2 * v + 0) = omega arith in
+    let high : 264 + 2 * v + 1 ≡ 264 + (2 * v + 1) = omega arith in
+    let rest : List ℕ = phis f ++ rows f in
+    ap (λ (s : List ℕ). setTwo s (264 + 2 * v) x) (parts f)
+    ∙ ap₂ (λ (i j : ℕ). set (set (heads f ++ (ranks f ++ (mates f ++ rest))) i (x % 256)) j (x / 256)) low high
+    ∙ ap (λ (s : List ℕ). set s (264 + (2 * v + 1)) (x / 256)) (past-ranks f (mates f ++ rest) (2 * v + 0) (x % 256))
+    ∙ past-ranks f _ (2 * v + 1) (x / 256)
+    ∙ ap (λ (s : List ℕ). heads f ++ (ranks f ++ s))
+    (ap (λ (s : List ℕ). set s (2 * v + 1) (x / 256)) (set-append-left (mates f) rest (2 * v + 0) (x % 256) (omega (arith, mates-length f)))
+    ∙ set-append-left (set (mates f) (2 * v + 0) (x % 256)) rest (2 * v + 1) (x / 256) (simp length-set (omega (arith, mates-length f)))
+    ∙ ap (λ (s : List ℕ). s ++ rest) (set-mates f v x l))
+    ∙ sym (parts (withMate f v x))
+
+pub setPhi-image : (f : Fields) (v j x : ℕ) → v < 256 → j < 4 → setPhi (image f) v j x ≡ image (withPhi f v j x)
+unfolding setPhi withPhi
+setPhi-image f v j x l k =
+    let row : ℕ → ℕ = upd (f .phi v) j x in
+    let new : set (phis f) (4 * v + j) x ≡ phis (withPhi f v j x) =
+    set-each 4 _ _ (λ u. each-one-length (f .phi u) 4) 256 v j x l k
+    (set-each-one (f .phi v) row 4 j x k (sym (upd-same (f .phi v) j x j refl)) (λ u c d. sym (upd-other (f .phi v) j x u d))
+    ∙ ap (λ (p : ℕ → ℕ). each 4 (λ i. p i ∷ [])) (sym (upd-same (f .phi) v row v refl)))
+    (λ u c d. ap (λ (p : ℕ → ℕ). each 4 (λ i. p i ∷ [])) (sym (upd-other (f .phi) v row u d))) in
+    ap (λ (s : List ℕ). set s (776 + (4 * v + j)) x) (parts f) ∙ past-mates f _ (4 * v + j) x
+    ∙ ap (λ (s : List ℕ). heads f ++ (ranks f ++ (mates f ++ s)))
+    (set-append-left (phis f) (rows f) (4 * v + j) x (omega (arith, phis-length f)) ∙ ap (λ (s : List ℕ). s ++ rows f) new)
+    ∙ sym (parts (withPhi f v j x))
+
+-- a row with one place changed: only the byte that holds it
+set-row : (f : Fields) (v w x : ℕ) (b : Bool) → v < 256 → w < 256 → x ≡ rowByte (upd (f .owns v) w b) (w / 8)
+    → set (image f) (1800 + (32 * v + w / 8)) x ≡ image (withOwns f v w b)
+unfolding withOwns
+set-row f v w x b l k e =
+    let row : ℕ → Bool = upd (f .owns v) w b in
+    let new : set (rows f) (32 * v + w / 8) x ≡ rows (withOwns f v w b) =
+    set-each 32 _ _ (λ u. each-one-length (rowByte (f .owns u)) 32) 256 v (w / 8) x l (omega arith)
+    (set-each-one (rowByte (f .owns v)) (rowByte row) 32 (w / 8) x (omega arith) e (λ u c d. rowByte-other (f .owns v) w b u d)
+    ∙ ap (λ (p : ℕ → Bool). each 32 (λ i. rowByte p i ∷ [])) (sym (upd-same (f .owns) v row v refl)))
+    (λ u c d. ap (λ (p : ℕ → Bool). each 32 (λ i. rowByte p i ∷ [])) (sym (upd-other (f .owns) v row u d))) in
+    ap (λ (s : List ℕ). set s (1800 + (32 * v + w / 8)) x) (parts f) ∙ past-phis f (rows f) (32 * v + w / 8) x
+    ∙ ap (λ (s : List ℕ). heads f ++ (ranks f ++ (mates f ++ (phis f ++ s)))) new
+    ∙ sym (parts (withOwns f v w b))
+
+-- the byte and the bit of a place of row v, in the whole buffer
+place-byte : (v w : ℕ) → (14400 + (256 * v + w)) / 8 ≡ 1800 + (32 * v + w / 8)
+place-byte v w = omega arith
+
+place-bit : (v w : ℕ) → (14400 + (256 * v + w)) % 8 ≡ w % 8
+place-bit v w = omega arith
+
+pub own-image : (f : Fields) (v w : ℕ) → v < 256 → w < 256 → own (image f) v w ≡ image (withOwns f v w true)
+unfolding own
+own-image f v w l k =
+    ap₂ (λ (i j : ℕ). set (image f) i (bitOr (getD (image f) i 0) (2 ^ j))) (place-byte v w) (place-bit v w)
+    ∙ set-row f v w _ true l k
+    (ap (λ (x : ℕ). bitOr x (2 ^ (w % 8))) (row-byte f v (w / 8) l (omega arith)) ∙ rowByte-or (f .owns v) w)
+
+pub disown-image : (f : Fields) (v w : ℕ) → v < 256 → w < 256 → disown (image f) v w ≡ image (withOwns f v w false)
+unfolding disown
+disown-image f v w l k =
+    ap₂ (λ (i j : ℕ). set (image f) i (bitAnd (getD (image f) i 0) (255 - 2 ^ j))) (place-byte v w) (place-bit v w)
+    ∙ set-row f v w _ false l k
+    (ap (λ (x : ℕ). bitAnd x (255 - 2 ^ (w % 8))) (row-byte f v (w / 8) l (omega arith)) ∙ rowByte-and (f .owns v) w)
+
+-- ---- rows of images
+
+pub degree-image : (f : Fields) (v : ℕ) → v < 256 → degreeAt (image f) v ≡ count (f .owns v) 256
+unfolding degreeAt
+degree-image f v l = count-ext (ownsAt (image f) v) (f .owns v) 256 (λ w k. owns-image f v w l k)

@@ -1,0 +1,44 @@
+-- `layout::clear` meets its contract. Assumes nothing.
+use mathlib.Core.Path.{_≡_, ap, _∙_}
+use mathlib.Core.List.{List}
+use Prim.Native.Nat.{ℕ, _/_, _%_}
+use lib.ListN.{set}
+use borrow.Author.Needs.{needs}
+use Rattle.layout.proofs.Cleared.{cleared}
+use Rattle.layout.proofs.clear.Statement.{statement}
+use Rattle.layout.proofs.clear.Tie as tie
+
+blank-requires : tie.Need-blank-requires
+blank-requires c κs = search needs
+
+cast-rack : tie.Need-cast-rack
+cast-rack c = search needs
+
+slice-write-rack : tie.Need-slice-write-rack
+slice-write-rack c = search needs
+
+cast-rack-2 : tie.Need-cast-rack-2
+cast-rack-2 c = search needs
+
+slice-write-rack-2 : tie.Need-slice-write-rack-2
+slice-write-rack-2 c = search needs
+
+same-length : tie.Need-same-length
+same-length c = search needs
+
+returns : tie.Need-returns
+returns c =
+    let n = c .before .before .before .before .before .args .n in
+    ap (λ (l : List ℕ). set (set l 0 (n % 256)) 1 (n / 256)) (c .before .before .blank .ensures) ∙ cleared n
+
+pub clear-spec : {M : Type 1} → statement M
+clear-spec =
+    tie.close
+    (tie.spec
+    blank-requires
+    cast-rack
+    slice-write-rack
+    cast-rack-2
+    slice-write-rack-2
+    same-length
+    returns)

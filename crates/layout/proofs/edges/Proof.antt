@@ -1,0 +1,22 @@
+-- `layout::edges` meets its contract: the definition, unfolded, is what the code does. Assumes nothing.
+use borrow.Author.Needs.{needs}
+use Rattle.model.specs.Bytes.{edgesAt, twoAt}
+use Rattle.layout.proofs.edges.Statement.{statement}
+use Rattle.layout.proofs.edges.Tie as tie
+
+shared-slice-read-join : tie.Need-shared-slice-read-join
+shared-slice-read-join c = search needs
+
+shared-slice-read-join-2 : tie.Need-shared-slice-read-join-2
+shared-slice-read-join-2 c = search needs
+
+join-requires : tie.Need-join-requires
+join-requires c κs = search needs
+
+returns : tie.Need-returns
+unfolding edgesAt twoAt
+returns c = search needs
+
+pub edges-spec : {M : Type 1} → statement M
+edges-spec =
+    tie.close (tie.spec shared-slice-read-join shared-slice-read-join-2 join-requires returns)

@@ -1,0 +1,3 @@
+-- The definitions that the contracts of `layout` cite, beside the reading of the bytes in `model`.
+pub mod Setters
+pub mod Rows

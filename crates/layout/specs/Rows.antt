@@ -1,0 +1,24 @@
+-- What is asked of a vertex's row: how many edges it owns, the k-th of them, and the first from a vertex on. Assumes nothing.
+use mathlib.Core.Path.{_≡_}
+use mathlib.Core.List.{List}
+use Prim.Native.Nat.{ℕ, _≤_, _<_}
+use lib.Dec.{T}
+use Rattle.model.specs.Counting.{count}
+use Rattle.model.specs.Bytes.{most, ownsAt}
+
+-- "How many links a board owns is how many bits of its row are set."
+unfoldable pub degreeAt : List ℕ → ℕ → ℕ
+degreeAt bs v = count (ownsAt bs v) most
+
+-- r is the k-th vertex, from 0, to which v owns an edge
+pub record NthOwned (bs : List ℕ) (v k r : ℕ) : Type 0 where
+  pub inside : r < most
+  pub is : T (ownsAt bs v r)
+  pub before : count (ownsAt bs v) r ≡ k
+
+-- r is the first vertex from `from` on to which v owns an edge, or `most` where there is none
+pub record NextOwned (bs : List ℕ) (v from r : ℕ) : Type 0 where
+  pub after : from ≤ r
+  pub within : r ≤ most
+  pub none : (w : ℕ) → from ≤ w → w < r → T (ownsAt bs v w) → ⊥
+  pub is : r < most → T (ownsAt bs v r)

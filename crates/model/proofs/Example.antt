@@ -1,0 +1,96 @@
+-- The worked example of document 01: its trace text is the printed form of a trace, and the record of that trace, computed from the
+-- definitions, is the record in the paper, to the byte. Assumes nothing.
+use mathlib.Core.Path.{_≡_, refl, subst}
+use mathlib.Core.Logic.{_⊎_, inl, inr}
+use mathlib.Core.Bool.{true}
+use mathlib.Core.List.{List, [], _∷_}
+use Prim.Native.Nat.{ℕ, _≤_}
+use native.Mathlib.Omega.{arith}
+use lib.ListN.{length}
+use Rattle.model.specs.State.{base, empty}
+use Rattle.model.specs.Bytes.{write}
+use Rattle.model.specs.Sound.{sizeGood}
+use Rattle.model.specs.Calls.{sized}
+use Rattle.model.specs.Text.{bytes, decimalIn, decimal, texts, over}
+use Rattle.model.specs.Trace.{Trace, LineChange, Holds, rackLine, codeText, wordText, changeLine, traceText, onFirst, linesOf, FirstBad}
+use Rattle.model.specs.Record.{answerLine, pairLine, endLine, pairLines, after, changesText, recordText}
+use Rattle.model.specs.Run.{Ran, ran, longest, spaceLength}
+use Rattle.model.proofs.Table.{adds, drops, computed}
+use Rattle.model.proofs.Bench.{zeros}
+
+unfoldable pub example : Trace
+example = record { n = 4; changes = adds 0 1 zeros ∷ adds 1 2 zeros ∷ adds 2 3 zeros ∷ drops 0 1 zeros ∷ adds 2 3 zeros ∷ [] }
+
+-- "From"
+unfoldable pub exampleText : List ℕ
+exampleText =
+    bytes "(rack (boards 4))\n(add (0 1) (draws 0 0))\n(add (1 2) (draws 0 0))\n(add (2 3) (draws 0 0))\n(drop (0 1) (draws 0 0))\n(add (2 3) (draws 0 0))\n"
+
+-- "it prints"
+unfoldable pub exampleRecord : List ℕ
+exampleRecord =
+    bytes "(rack (boards 4))\n(done (draws 1) (falls 0) (pairs 1))\n(done (draws 0) (falls 0) (pairs 1))\n(done (draws 1) (falls 0) (pairs 2))\n(done (draws 0) (falls 2) (pairs 1))\n(refused 10)\n(pair (2 3) (level 0))\n(end (pairs 1))\n"
+
+-- a change of two small vertices with the words 0 0 fits on a line
+fits : (code a b : ℕ) → (code ≡ 1) ⊎ (code ≡ 2) → a ≤ 3 → b ≤ 3 → LineChange (record { code = code; a = a; b = b; words = zeros })
+unfolding zeros
+fits code a b p q r = record {
+  codes = p;
+  a-fits = omega arith;
+  b-fits = omega arith;
+  few = omega arith;
+  words-fit = (omega arith, (omega arith, tt));
+}
+
+pub example-holds : Holds exampleText example
+unfolding example exampleText zeros traceText rackLine changeLine codeText wordText texts decimal decimalIn
+example-holds = record {
+  n-fits = omega arith;
+  changes-fit = (
+    fits 1 0 1 (inl refl) (omega arith) (omega arith),
+    (
+      fits 1 1 2 (inl refl) (omega arith) (omega arith),
+      (
+        fits 1 2 3 (inl refl) (omega arith) (omega arith),
+        (fits 2 0 1 (inr refl) (omega arith) (omega arith), (fits 1 2 3 (inl refl) (omega arith) (omega arith), tt)),
+      ),
+    ),
+  );
+  printed = refl;
+}
+
+pub example-record : recordText base example ≡ exampleRecord
+unfolding example exampleRecord zeros recordText rackLine changesText answerLine pairLine pairLines endLine texts decimal decimalIn computed
+example-record = refl
+
+-- So a run of the text, in any rack buffer and any record space of their lengths, puts the paper's record at the front of the space,
+-- keeps the bytes past it, and answers 0 and the record's length.
+pub example-ran : (rack space : List ℕ) → sized rack ≡ true → spaceLength ≤ length space
+    → Ran base rack exampleText space (record { number = 0; line = 0; length = length exampleRecord })
+    (write (after base (empty 4) (example .changes))) (over 0 exampleRecord space)
+unfolding example
+example-ran rack space p q =
+    subst (λ (x : List ℕ). Ran base rack exampleText space (record { number = 0; line = 0; length = length x })
+    (write (after base (empty 4) (example .changes))) (over 0 x space))
+    example-record (ran {t = example} p text-short q example-holds four-good)
+  where
+    text-short : length exampleText ≤ longest
+    text-short = unfold exampleText in omega arith
+
+    four-good : sizeGood 4 ≡ true
+    four-good = unfold sizeGood in refl
+
+-- P12: "empty text: 4, line 1"
+pub empty-text : FirstBad (linesOf []) 1
+unfolding linesOf FirstBad
+empty-text = refl
+
+-- bytes after the last line feed are a line
+pub cut : linesOf (bytes "ab\n\ncd") ≡ bytes "ab\n" ∷ bytes "\n" ∷ bytes "cd" ∷ []
+unfolding onFirst linesOf
+cut = refl
+
+-- a number has one decimal form
+pub largest-decimal : decimal 4294967295 ≡ bytes "4294967295"
+unfolding decimal decimalIn
+largest-decimal = refl

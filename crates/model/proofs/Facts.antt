@@ -1,0 +1,200 @@
+-- What each test of a sound rack says, as a fact about its bytes, and that it is that fact that is tested. Assumes nothing.
+use mathlib.Core.Path.{_≡_}
+use mathlib.Core.Logic.{_≢_}
+use mathlib.Core.Bool.{Bool, true, false, not, _&&_, _||_}
+use mathlib.Core.List.{List}
+use Prim.Native.Nat.{ℕ, suc, _+_, _≤_, _<_}
+use native.Mathlib.Omega.{arith}
+use lib.Dec.{T, leb, ltb, eqb, leb→le, le→leb, eqb→eq, not-T, T-not}
+use lib.ListN.{getD}
+use Rattle.model.specs.Counting.{every}
+use Rattle.model.specs.State.{Rules, edge, phi, edges}
+use Rattle.model.specs.Bytes.{most, noMate, sizeAt, edgesAt, rankAt, mateAt, phiAt, ownsAt, read}
+use Rattle.model.specs.Sound.{spareZero, unused, pastUnused, pastUnnamed, sizeGood, ranksGood, noLoop, ownedOnce, edgesRight, phiRight, ownerHigh, mated, matesGood, freeLow, phiLow, sound}
+use Rattle.model.proofs.Tests.{eqb-yes, true-T, and-intro, and-left, and-right}
+use Rattle.model.proofs.Counting.{every-all, all-every}
+
+-- The test b says P: it passes exactly if P holds.
+pub record Says (b : Bool) (P : Type 0) : Type 0 where
+  pub fact : T b → P
+  pub test : P → T b
+
+pub eqb-says : (a b : ℕ) → Says (eqb a b) (a ≡ b)
+eqb-says a b = record { fact = eqb→eq a b; test = λ p. true-T (eqb-yes a b p) }
+
+pub leb-says : (a b : ℕ) → Says (leb a b) (a ≤ b)
+leb-says a b = record { fact = leb→le a b; test = le→leb a b }
+
+pub self-says : (b : Bool) → Says b (T b)
+self-says b = record { fact = λ h. h; test = λ h. h }
+
+pub not-says : {b : Bool} {P : Type 0} → Says b P → Says (not b) (P → ⊥)
+not-says {b} f = record { fact = λ h k. T-not b h (f .test k); test = λ h. not-T b (λ t. h (f .fact t)) }
+
+pub and-says : {a b : Bool} {P Q : Type 0} → Says a P → Says b Q → Says (a && b) (P × Q)
+and-says {a} {b} f g = record {
+  fact = λ h. (f .fact (and-left a b h), g .fact (and-right a b h));
+  test = λ h. and-intro a b (f .test (h .0)) (g .test (h .1));
+}
+
+-- an alternative says what holds where its first part does not
+pub or-says : {a b : Bool} {P Q : Type 0} → Says a P → Says b Q → Says (a || b) ((P → ⊥) → Q)
+or-says {a = true} f g = record { fact = λ h k. absurd (k (f .fact tt)); test = λ h. tt }
+or-says {a = false} f g = record { fact = λ h k. g .fact h; test = λ h. g .test (h (f .test)) }
+
+pub imp-says : {a b : Bool} {P Q : Type 0} → Says a P → Says b Q → Says (not a || b) (P → Q)
+imp-says {a = true} f g = record { fact = λ h k. g .fact h; test = λ h. g .test (h (f .fact tt)) }
+imp-says {a = false} f g = record { fact = λ h k. absurd (f .test k); test = λ h. tt }
+
+pub past-says : (v n : ℕ) {b : Bool} {Q : Type 0} → Says b Q → Says (ltb v n || b) (n ≤ v → Q)
+past-says v n g =
+    let e = or-says (leb-says (suc v) n) g in
+    record { fact = λ h k. e .fact h (λ l. omega arith); test = λ h. e .test (λ l. h (omega arith)) }
+
+pub every-says : {p : ℕ → Bool} {P : ℕ → Type 0} (n : ℕ) → ((v : ℕ) → Says (p v) (P v)) → Says (every p n) ((v : ℕ) → v < n → P v)
+every-says {p} n f = record { fact = λ h v l. f v .fact (every-all p n h v l); test = λ h. all-every p n (λ v l. f v .test (h v l)) }
+
+-- the entry of a vertex that is none
+pub record Unused (bs : List ℕ) (v : ℕ) : Type 0 where
+  pub rank : rankAt bs v ≡ 0
+  pub mate : mateAt bs v ≡ noMate
+  pub phi : (j : ℕ) → j < 4 → phiAt bs v j ≡ 0
+  pub owns : (w : ℕ) → w < 256 → T (ownsAt bs v w) → ⊥
+
+-- w is a right mate for v
+pub record Mated (bs : List ℕ) (v w : ℕ) : Type 0 where
+  pub back : mateAt bs w ≡ v
+  pub linked : T (edge (read bs) v w)
+  pub level : rankAt bs w ≡ rankAt bs v
+
+pub sizeGood-says : (n : ℕ) → Says (sizeGood n) ((1 ≤ n) × (n ≤ 256))
+unfolding sizeGood
+sizeGood-says n = and-says (leb-says 1 n) (leb-says n 256)
+
+module _ (bs : List ℕ) where
+  pub unused-says : (v : ℕ) → Says (unused bs v) (Unused bs v)
+  unfolding unused
+  unused-says v =
+      let e = and-says (eqb-says (rankAt bs v) 0) (and-says (eqb-says (mateAt bs v) noMate) (and-says
+      (every-says 4 (λ j. eqb-says (phiAt bs v j) 0)) (every-says 256 (λ w. not-says (self-says (ownsAt bs v w)))))) in
+      record {
+        fact = λ h. let u = e .fact h in record { rank = u .0; mate = u .1 .0; phi = u .1 .1 .0; owns = u .1 .1 .1 };
+        test = λ u. e .test (u .rank, (u .mate, (u .phi, u .owns)));
+      }
+
+  pub mated-says : (v w : ℕ) → Says (mated bs v w) (Mated bs v w)
+  unfolding mated
+  mated-says v w =
+      let e = and-says (eqb-says (mateAt bs w) v) (and-says (self-says (edge (read bs) v w)) (eqb-says (rankAt bs w) (rankAt bs v))) in
+      record {
+        fact = λ h. let u = e .fact h in record { back = u .0; linked = u .1 .0; level = u .1 .1 };
+        test = λ u. e .test (u .back, (u .linked, u .level));
+      }
+
+  -- a test in each line of document 01's list
+  pub spareZero-says : Says (spareZero bs) ((k : ℕ) → k < 4 → getD bs (4 + k) 0 ≡ 0)
+  unfolding spareZero
+  spareZero-says = every-says 4 (λ k. eqb-says (getD bs (4 + k) 0) 0)
+
+  pub pastUnused-says : Says (pastUnused bs) ((v : ℕ) → v < 256 → sizeAt bs ≤ v → Unused bs v)
+  unfolding pastUnused
+  pastUnused-says = every-says 256 (λ v. past-says v (sizeAt bs) (unused-says v))
+
+  pub pastUnnamed-says : Says (pastUnnamed bs) ((v : ℕ) → v < 256 → (w : ℕ) → w < 256 → sizeAt bs ≤ w → T (ownsAt bs v w) → ⊥)
+  unfolding pastUnnamed
+  pastUnnamed-says = every-says 256 (λ v. every-says 256 (λ w. past-says w (sizeAt bs) (not-says (self-says (ownsAt bs v w)))))
+
+  pub ranksGood-says : (R : Rules) → Says (ranksGood R bs) ((v : ℕ) → v < sizeAt bs → rankAt bs v ≤ suc (R .top))
+  unfolding ranksGood
+  ranksGood-says R = every-says (sizeAt bs) (λ v. leb-says (rankAt bs v) (suc (R .top)))
+
+  pub noLoop-says : Says (noLoop bs) ((v : ℕ) → v < sizeAt bs → T (ownsAt bs v v) → ⊥)
+  unfolding noLoop
+  noLoop-says = every-says (sizeAt bs) (λ v. not-says (self-says (ownsAt bs v v)))
+
+  pub ownedOnce-says : Says (ownedOnce bs)
+      ((v : ℕ) → v < sizeAt bs → (w : ℕ) → w < sizeAt bs → (T (ownsAt bs v w) × T (ownsAt bs w v)) → ⊥)
+  unfolding ownedOnce
+  ownedOnce-says =
+      every-says (sizeAt bs) (λ v. every-says (sizeAt bs) (λ w. not-says (and-says (self-says (ownsAt bs v w)) (self-says (ownsAt bs w v)))))
+
+  pub edgesRight-says : Says (edgesRight bs) (edgesAt bs ≡ edges (read bs))
+  unfolding edgesRight
+  edgesRight-says = eqb-says (edgesAt bs) (edges (read bs))
+
+  pub phiRight-says : Says (phiRight bs) ((v : ℕ) → v < sizeAt bs → (j : ℕ) → j < 4 → phiAt bs v j ≡ phi (read bs) v j)
+  unfolding phiRight
+  phiRight-says = every-says (sizeAt bs) (λ v. every-says 4 (λ j. eqb-says (phiAt bs v j) (phi (read bs) v j)))
+
+  pub ownerHigh-says : Says (ownerHigh bs)
+      ((v : ℕ) → v < sizeAt bs → (w : ℕ) → w < sizeAt bs → T (ownsAt bs v w) → rankAt bs w ≤ rankAt bs v)
+  unfolding ownerHigh
+  ownerHigh-says =
+      every-says (sizeAt bs) (λ v. every-says (sizeAt bs) (λ w. imp-says (self-says (ownsAt bs v w)) (leb-says (rankAt bs w) (rankAt bs v))))
+
+  pub matesGood-says : Says (matesGood bs) ((v : ℕ) → v < sizeAt bs → mateAt bs v ≢ noMate → Mated bs v (mateAt bs v))
+  unfolding matesGood
+  matesGood-says = every-says (sizeAt bs) (λ v. or-says (eqb-says (mateAt bs v) noMate) (mated-says v (mateAt bs v)))
+
+  pub freeLow-says : Says (freeLow bs)
+      ((v : ℕ) → v < sizeAt bs → (mateAt bs v ≡ noMate → rankAt bs v ≡ 0) × (rankAt bs v ≡ 0 → mateAt bs v ≡ noMate))
+  unfolding freeLow
+  freeLow-says =
+      every-says (sizeAt bs) (λ v. and-says
+      (imp-says (eqb-says (mateAt bs v) noMate) (eqb-says (rankAt bs v) 0))
+      (imp-says (eqb-says (rankAt bs v) 0) (eqb-says (mateAt bs v) noMate)))
+
+  pub phiLow-says : (R : Rules) → Says (phiLow R bs) ((v : ℕ) → v < sizeAt bs → (j : ℕ) → j < suc (R .top) → phiAt bs v j < R .thr j)
+  unfolding phiLow
+  phiLow-says R = every-says (sizeAt bs) (λ v. every-says (suc (R .top)) (λ j. leb-says (suc (phiAt bs v j)) (R .thr j)))
+
+-- all that is tested of a sound rack, in the order of the tests
+pub record Facts (R : Rules) (bs : List ℕ) : Type 0 where
+  pub spare : (k : ℕ) → k < 4 → getD bs (4 + k) 0 ≡ 0
+  pub unused : (v : ℕ) → v < 256 → sizeAt bs ≤ v → Unused bs v
+  pub unnamed : (v : ℕ) → v < 256 → (w : ℕ) → w < 256 → sizeAt bs ≤ w → T (ownsAt bs v w) → ⊥
+  pub size : (1 ≤ sizeAt bs) × (sizeAt bs ≤ 256)
+  pub ranks : (v : ℕ) → v < sizeAt bs → rankAt bs v ≤ suc (R .top)
+  pub no-loop : (v : ℕ) → v < sizeAt bs → T (ownsAt bs v v) → ⊥
+  pub owned-once : (v : ℕ) → v < sizeAt bs → (w : ℕ) → w < sizeAt bs → (T (ownsAt bs v w) × T (ownsAt bs w v)) → ⊥
+  pub edges : edgesAt bs ≡ edges (read bs)
+  pub phi : (v : ℕ) → v < sizeAt bs → (j : ℕ) → j < 4 → phiAt bs v j ≡ phi (read bs) v j
+  pub owner-high : (v : ℕ) → v < sizeAt bs → (w : ℕ) → w < sizeAt bs → T (ownsAt bs v w) → rankAt bs w ≤ rankAt bs v
+  pub mated : (v : ℕ) → v < sizeAt bs → mateAt bs v ≢ noMate → Mated bs v (mateAt bs v)
+  pub free-low : (v : ℕ) → v < sizeAt bs → (mateAt bs v ≡ noMate → rankAt bs v ≡ 0) × (rankAt bs v ≡ 0 → mateAt bs v ≡ noMate)
+  pub phi-low : (v : ℕ) → v < sizeAt bs → (j : ℕ) → j < suc (R .top) → phiAt bs v j < R .thr j
+
+both : {P Q : Type 0} → P → Q → P × Q
+both p q = (p, q)
+
+pub sound-says : (R : Rules) (bs : List ℕ) → Says (sound R bs) (Facts R bs)
+unfolding sound
+sound-says R bs =
+    let e =
+    and-says (spareZero-says bs) (and-says (pastUnused-says bs) (and-says (pastUnnamed-says bs) (and-says (sizeGood-says (sizeAt bs))
+    (and-says (ranksGood-says bs R) (and-says (noLoop-says bs) (and-says (ownedOnce-says bs) (and-says (edgesRight-says bs)
+    (and-says (phiRight-says bs) (and-says (ownerHigh-says bs) (and-says (matesGood-says bs) (and-says (freeLow-says bs) (phiLow-says bs R)))))))))))) in
+    record {
+      fact = λ h.
+          let a = e .fact h in
+          let b = a .1 .1 .1 .1 in
+          let c = b .1 .1 .1 .1 in
+          record {
+            spare = a .0;
+            unused = a .1 .0;
+            unnamed = a .1 .1 .0;
+            size = a .1 .1 .1 .0;
+            ranks = b .0;
+            no-loop = b .1 .0;
+            owned-once = b .1 .1 .0;
+            edges = b .1 .1 .1 .0;
+            phi = c .0;
+            owner-high = c .1 .0;
+            mated = c .1 .1 .0;
+            free-low = c .1 .1 .1 .0;
+            phi-low = c .1 .1 .1 .1;
+          };
+      test = λ f. e .test (both (f .spare) (both (f .unused) (both (f .unnamed) (both (f .size)
+          (both (f .ranks) (both (f .no-loop) (both (f .owned-once) (both (f .edges)
+          (both (f .phi) (both (f .owner-high) (both (f .mated) (both (f .free-low) (f .phi-low)))))))))))));
+    }

@@ -1,0 +1,101 @@
+-- What follows at once for a valid state: nothing from n on, and every number fits its place in the bytes. Assumes nothing.
+use mathlib.Core.Path.{_≡_, refl}
+use mathlib.Core.Logic.{_≢_, inl, inr}
+use mathlib.Core.Bool.{Bool, true, false, _&&_}
+use Prim.Native.Nat.{ℕ, suc, _≤_, _<_}
+use native.Mathlib.Omega.{arith}
+use lib.Dec.{T, leb, ltb, leb→le}
+use Rattle.model.specs.Counting.{count}
+use Rattle.model.specs.State.{Rules, State, edge, near, below, phi, edges}
+use Rattle.model.specs.Bytes.{most, noMate, mateEntry}
+use Rattle.model.specs.Valid.{Valid}
+use Rattle.model.proofs.Tests.{eq?, le?, eqb-yes, eqb-no, and-left, or-cases}
+use Rattle.model.proofs.Counting.{sum-bound, count-none, count-miss}
+
+pick-le : (b : Bool) (x : ℕ) → elim b as (λ y. ℕ) [ true ↦ x | false ↦ 0 ] ≤ x
+pick-le true x = omega arith
+pick-le false x = omega arith
+
+pub phi-below : (s : State) (v j : ℕ) → phi s v j ≤ below s v j
+unfolding phi
+phi-below s v j = pick-le (leb (s .rank v) j) (below s v j)
+
+-- no edge is counted at its own end, so each vertex counts at most 255 and there are fewer than 65,536 in all
+pub edges-few : (s : State) → s .n ≤ 256 → edges s < 65536
+unfolding edges
+edges-few s h =
+    omega (
+      arith,
+      sum-bound (λ v. count (λ w. ltb v w && edge s v w) (s .n)) 255 (s .n)
+          (λ v l. omega (
+            arith,
+            count-miss (λ w. ltb v w && edge s v w) v (s .n) l
+                (λ t. let z : v < v = leb→le (suc v) v (and-left (ltb v v) _ t) in omega arith),
+          )),
+    )
+
+-- a vertex that is its own mate is written as free, and any other mate as it is
+pub mateEntry-free : (s : State) (v : ℕ) → s .mate v ≡ v → mateEntry s v ≡ noMate
+unfolding mateEntry
+mateEntry-free s v e = rw (eqb-yes (s .mate v) v e, mateEntry) refl
+
+pub mateEntry-mate : (s : State) (v : ℕ) → s .mate v ≢ v → mateEntry s v ≡ s .mate v
+unfolding mateEntry
+mateEntry-mate s v e = rw (eqb-no (s .mate v) v e, mateEntry) refl
+
+-- where nothing is owned from n on, no edge leads there, and so nothing is counted there
+module _ (s : State) (inside : (v w : ℕ) → T (s .owns v w) → (v < s .n) × (w < s .n)) where
+  pub edge-within : (v w : ℕ) → T (edge s v w) → (v < s .n) × (w < s .n)
+  unfolding edge
+  edge-within v w t = elim (or-cases (s .owns v w) (s .owns w v) t) [
+    | inl o ↦ inside v w o
+    | inr o ↦ (inside w v o .1, inside w v o .0)
+  ]
+
+  pub phi-none : (v j : ℕ) → s .n ≤ v → phi s v j ≡ 0
+  unfolding below near
+  phi-none v j l =
+      omega (
+        arith,
+        phi-below s v j,
+        count-none (near s v j) (s .n)
+            (λ w b t. let i = edge-within v w (and-left (edge s v w) _ t) in omega arith),
+      )
+
+module _ {R : Rules} {s : State} (ok : Valid R s) where
+  pub size-few : s .n ≤ 256
+  size-few = ok .few
+
+  pub edge-inside : (v w : ℕ) → T (edge s v w) → (v < s .n) × (w < s .n)
+  edge-inside v w t = edge-within s (ok .inside) v w t
+
+  pub edge-loop : (v : ℕ) → T (edge s v v) → ⊥
+  unfolding edge
+  edge-loop v t = elim (or-cases (s .owns v v) (s .owns v v) t) [ inl o ↦ ok .no-loop v o | inr o ↦ ok .no-loop v o ]
+
+  pub mate-past : (v : ℕ) → s .n ≤ v → s .mate v ≡ v
+  mate-past v l = ok .low-free v (ok .past v l)
+
+  pub mate-inside : (v : ℕ) → s .mate v ≢ v → s .mate v < s .n
+  mate-inside v d = edge-inside v (s .mate v) (ok .mates-linked v d) .1
+
+  pub phi-past : (v j : ℕ) → s .n ≤ v → phi s v j ≡ 0
+  phi-past v j l = phi-none s (ok .inside) v j l
+
+  pub phi-few : (v j : ℕ) → phi s v j < 256
+  unfolding below near
+  phi-few v j = elim (le? (s .n) v) [
+    | inl l ↦ omega (arith, phi-past v j l)
+    | inr l ↦ omega (
+      arith,
+      size-few,
+      phi-below s v j,
+      count-miss (near s v j) v (s .n) l (λ t. edge-loop v (and-left (edge s v v) _ t)),
+    )
+  ]
+
+  pub mateEntry-few : (v : ℕ) → mateEntry s v < 65536
+  mateEntry-few v = elim (eq? (s .mate v) v) [
+    | inl e ↦ omega (arith, mateEntry-free s v e)
+    | inr d ↦ omega (arith, mateEntry-mate s v d, mate-inside v d, size-few)
+  ]

@@ -1,0 +1,128 @@
+-- Document 01, "Elementary moves" and "The settling". A level i is a number from 0 on; a vertex at level i has rank i + 1.
+-- Assumes nothing.
+use mathlib.Core.Bool.{Bool, true, false, not, _&&_, _||_}
+use mathlib.Core.List.{List, [], _∷_}
+use Prim.Native.Nat.{ℕ, zero, suc, _*_, _%_}
+use lib.Dec.{eqb, leb}
+use lib.ListN.{length, getD}
+use Rattle.model.specs.Counting.{listed, upd}
+use Rattle.model.specs.State.{Rules, State, near, below, phi, pending}
+
+-- two vertices, as the ends of an edge or a new pair
+pub record Ends : Type 0 where
+  pub a : ℕ
+  pub b : ℕ
+
+-- A change on its way: the rack, the new pairs (u, y) of its draws, the last first, the words used, and the falls.
+pub record Run : Type 0 where
+  pub state : State
+  pub news : List Ends
+  pub draws : ℕ
+  pub falls : ℕ
+
+-- the run with another rack
+abbrev pub at : Run → State → Run
+at r s = record { state = s; news = r .news; draws = r .draws; falls = r .falls }
+
+-- Owners: the edges between u and the vertices that pass p now belong to u (mine is true) or to those (mine is false).
+unfoldable pub ownedBy : ℕ → (ℕ → Bool) → Bool → (ℕ → ℕ → Bool) → ℕ → ℕ → Bool
+ownedBy u p mine owns v w = elim (eqb v u && p w) [ true ↦ mine | false ↦ elim (eqb w u && p v) [ true ↦ not mine | false ↦ owns v w ] ]
+
+-- v's pair is parted; a free v stays as it is
+unfoldable pub part : ℕ → State → State
+part v s = record { n = s .n; rank = s .rank; mate = upd (upd (s .mate) (s .mate v) (s .mate v)) v v; owns = s .owns }
+
+-- "Rise of u to i: u takes ownership of every link to a board then below i. Other owners stand."
+unfoldable pub rise : ℕ → ℕ → State → State
+rise i u s = record { n = s .n; rank = upd (s .rank) u (suc i); mate = s .mate; owns = ownedBy u (near s u i) true (s .owns) }
+
+-- u and y are mates
+unfoldable pub marry : ℕ → ℕ → State → State
+marry u y s = record { n = s .n; rank = s .rank; mate = upd (upd (s .mate) u y) y u; owns = s .owns }
+
+-- "the chosen one stands at place (word mod k), places from 0. The next unused word is used.": the place among k, of which `used`
+-- words were used before
+unfoldable pub place : List ℕ → ℕ → ℕ → ℕ
+place words used k = getD words used 0 % k
+
+-- "list u's neighbours below i by rising number, k of them; the chosen one stands at place (word mod k)"
+unfoldable pub chosen : List ℕ → ℕ → ℕ → Run → ℕ
+chosen words i u r =
+    let l = listed (near (r .state) u i) (r .state .n) in
+    getD l (place words (r .draws) (length l)) 0
+
+-- "If the chosen y has a mate, that pair is parted. Then y rises to i, and u and y are mates."
+unfoldable pub drawn : ℕ → ℕ → ℕ → Run → Run
+drawn i u y r = record {
+  state = marry u y (rise i y (part y (r .state)));
+  news = record { a = u; b = y } ∷ r .news;
+  draws = suc (r .draws);
+  falls = r .falls;
+}
+
+-- "Draw at u, level i"
+unfoldable pub draw : List ℕ → ℕ → ℕ → Run → Run
+draw words i u r = drawn i u (chosen words i u r) r
+
+-- "loses its mate if it has one, rises to i and draws"
+unfoldable pub promote : List ℕ → ℕ → ℕ → Run → Run
+promote words i u r = draw words i u (at r (rise i u (part u (r .state))))
+
+-- "v hands each owned link whose other end is also at level i to that end"
+unfoldable pub handOver : ℕ → ℕ → State → State
+handOver i v s = record {
+  n = s .n;
+  rank = s .rank;
+  mate = s .mate;
+  owns = ownedBy v (λ w. s .owns v w && eqb (s .rank w) (suc i)) false (s .owns);
+}
+
+-- "v falls to i-1"; "its falls (moves down by one level)"
+unfoldable pub fall : ℕ → ℕ → Run → Run
+fall i v r = let s = r .state in record {
+  state = record { n = s .n; rank = upd (s .rank) v i; mate = s .mate; owns = s .owns };
+  news = r .news;
+  draws = r .draws;
+  falls = suc (r .falls);
+}
+
+-- "below i with a count at i of at least 4^i"
+unfoldable pub due : Rules → ℕ → ℕ → State → Bool
+due R i w s = leb (s .rank w) i && leb (R .thr i) (phi s w i)
+
+-- "the boards [..] are gone through by rising number; each one that is below i with a count at i of at least 4^i loses its mate if it
+-- has one, rises to i and draws"
+unfoldable pub scan : Rules → List ℕ → ℕ → List ℕ → Run → Run
+scan R words i [] r = r
+scan R words i (w ∷ l) r = elim (due R i w (r .state)) [ true ↦ scan R words i l (promote words i w r) | false ↦ scan R words i l r ]
+
+-- "Then the boards to which v owned links just after the fall are gone through by rising number"
+unfoldable pub scanFrom : Rules → List ℕ → ℕ → ℕ → Run → Run
+scanFrom R words i v r = scan R words i (listed (r .state .owns v) (r .state .n)) r
+
+-- "Taking a waiting v at level i: v hands each owned link [..] on. Let k be its neighbours below i. If k is at least 4^i, v draws.
+-- If not, v falls to i-1." and the scan
+unfoldable pub take : Rules → List ℕ → ℕ → ℕ → Run → Run
+take R words i v r =
+    let q = at r (handOver i v (r .state)) in
+    elim (leb (R .thr i) (below (q .state) v i)) [ true ↦ draw words i v q | false ↦ scanFrom R words i v (fall i v q) ]
+
+-- what a search finds: nothing, or a level and a vertex
+pub data Found : Type 0 where
+  none : Found
+  found : ℕ → ℕ → Found
+
+-- "take one of the highest level, lowest number first": the pending vertex to be taken, of a level below m
+unfoldable pub pick : ℕ → State → Found
+pick zero s = none
+pick (suc i) s = elim (listed (pending s i) (s .n)) [ [] ↦ pick i s | v ∷ l ↦ found i v ]
+
+-- "The settling: while any board waits, take one": at most `fuel` takings
+unfoldable pub settleIn : Rules → List ℕ → ℕ → Run → Run
+settleIn R words zero r = r
+settleIn R words (suc fuel) r =
+    elim (pick (suc (R .top)) (r .state)) [ none ↦ r | found i v ↦ settleIn R words fuel (take R words i v r) ]
+
+-- The settling. There are never more takings than n times the number of levels from 0 on, which is shown, not assumed.
+unfoldable pub settle : Rules → List ℕ → Run → Run
+settle R words r = settleIn R words (r .state .n * suc (R .top)) r

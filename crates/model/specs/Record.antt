@@ -1,0 +1,44 @@
+-- Document 01, "Trace and record": the record of a trace, to the byte. Assumes nothing.
+use mathlib.Core.Bool.{Bool, true, false}
+use mathlib.Core.List.{List, [], _∷_, _++_}
+use Prim.Native.Nat.{ℕ, _-_}
+use lib.Dec.{eqb, ltb}
+use Rattle.model.specs.Counting.{listed}
+use Rattle.model.specs.State.{Rules, State, pairs, empty}
+use Rattle.model.specs.Change.{Change, Answer, Changed, change}
+use Rattle.model.specs.Text.{bytes, decimal, texts}
+use Rattle.model.specs.Trace.{Trace, rackLine}
+
+-- "`(done (draws D) (falls F) (pairs P))` with its figures"; "A refused change (8 to 12) gives its number K as `(refused K)`"
+unfoldable pub answerLine : Answer → List ℕ
+answerLine x = elim (eqb (x .number) 0) [
+  | true ↦ bytes "(done (draws " ++ (decimal (x .draws) ++ (bytes ") (falls " ++ (decimal (x .falls) ++ (bytes ") (pairs " ++ (decimal (x .pairs) ++ bytes "))\n")))))
+  | false ↦ bytes "(refused " ++ (decimal (x .number) ++ bytes ")\n")
+]
+
+-- "A pair's line is `(pair (A B) (level L))`, A the lower board and L their level."
+unfoldable pub pairLine : State → ℕ → List ℕ
+pairLine s v =
+    bytes "(pair (" ++ (decimal v ++ (bytes " " ++ (decimal (s .mate v) ++ (bytes ") (level " ++ (decimal (s .rank v - 1) ++ bytes "))\n")))))
+
+-- "The end line is `(end (pairs P))`, P the pairs then held."
+unfoldable pub endLine : State → List ℕ
+endLine s = bytes "(end (pairs " ++ (decimal (pairs s) ++ bytes "))\n")
+
+-- "the pairs by rising lower board"
+unfoldable pub pairLines : State → List ℕ
+pairLines s = texts (pairLine s) (listed (λ v. ltb v (s .mate v)) (s .n))
+
+-- the rack after a list of changes
+unfoldable pub after : Rules → State → List Change → State
+after R s [] = s
+after R s (c ∷ cs) = after R (change R s c .state) cs
+
+-- "one line for each change", "then the pairs by rising lower board, then the end line"
+unfoldable pub changesText : Rules → State → List Change → List ℕ
+changesText R s [] = pairLines s ++ endLine s
+changesText R s (c ∷ cs) = let d = change R s c in answerLine (d .answer) ++ changesText R (d .state) cs
+
+-- "The record repeats line 1, has one line for each change, then the pairs by rising lower board, then the end line"
+unfoldable pub recordText : Rules → Trace → List ℕ
+recordText R t = rackLine (t .n) ++ changesText R (empty (t .n)) (t .changes)

@@ -1,0 +1,44 @@
+-- Document 01, "Trace and record" and "Turned back": running a trace text to a record. "a trace 1 to 5". Assumes nothing.
+use mathlib.Core.Path.{_≡_}
+use mathlib.Core.Bool.{true, false}
+use mathlib.Core.List.{List}
+use Prim.Native.Nat.{ℕ, _≤_, _<_}
+use lib.ListN.{length}
+use Rattle.model.specs.State.{Rules, empty}
+use Rattle.model.specs.Bytes.{write}
+use Rattle.model.specs.Sound.{sizeGood}
+use Rattle.model.specs.Calls.{sized}
+use Rattle.model.specs.Text.{over}
+use Rattle.model.specs.Trace.{Trace, Holds, linesOf, FirstBad}
+use Rattle.model.specs.Record.{after, recordText}
+
+-- the answer: the number, the line that doesn't fit (for number 4), and the record's length
+pub record RunAnswer : Type 0 where
+  pub number : ℕ
+  pub line : ℕ
+  pub length : ℕ
+
+abbrev pub turnedBack : ℕ → ℕ → RunAnswer
+turnedBack k line = record { number = k; line = line; length = 0 }
+
+-- "2. The trace text is over 16,384 bytes." "3. The record space is under 65,536 bytes."
+abbrev pub longest : ℕ
+longest = 16384
+
+abbrev pub spaceLength : ℕ
+spaceLength = 65536
+
+-- What a run answers, and the bytes of the rack and of the record space after it: "first fit first", "nothing lent is written".
+-- "The whole text is read before the rack is made, in the lent rack buffer, which holds the last state at the end."
+-- "Bytes past the record keep their values. The answer is 0 and the record's length."
+pub data Ran (R : Rules) (rack text space : List ℕ) : RunAnswer → List ℕ → List ℕ → Type 0 where
+  rack-length : sized rack ≡ false → Ran R rack text space (turnedBack 1 0) rack space
+  text-long : sized rack ≡ true → longest < length text → Ran R rack text space (turnedBack 2 0) rack space
+  space-short : sized rack ≡ true → length text ≤ longest → length space < spaceLength → Ran R rack text space (turnedBack 3 0) rack space
+  bad-line : {line : ℕ} → sized rack ≡ true → length text ≤ longest → spaceLength ≤ length space → FirstBad (linesOf text) line
+      → Ran R rack text space (turnedBack 4 line) rack space
+  bad-size : {t : Trace} → sized rack ≡ true → length text ≤ longest → spaceLength ≤ length space → Holds text t → sizeGood (t .n) ≡ false
+      → Ran R rack text space (turnedBack 5 0) rack space
+  ran : {t : Trace} → sized rack ≡ true → length text ≤ longest → spaceLength ≤ length space → Holds text t → sizeGood (t .n) ≡ true
+      → Ran R rack text space (record { number = 0; line = 0; length = length (recordText R t) })
+      (write (after R (empty (t .n)) (t .changes))) (over 0 (recordText R t) space)

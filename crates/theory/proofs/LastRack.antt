@@ -1,0 +1,97 @@
+-- What the bytes of a valid state say, with its edges as the ledger's: every fact of demand 3 about the last rack. Assumes nothing.
+use mathlib.Core.Path.{_≡_, refl, sym, ap, _∙_, subst}
+use mathlib.Core.Logic.{_≢_, inl, inr}
+use mathlib.Core.Bool.{Bool, true, false, _&&_}
+use mathlib.Core.List.{List}
+use Prim.Native.Nat.{ℕ, suc, _*_, _^_, _≤_, _<_}
+use native.Mathlib.Omega.{arith}
+use lib.Dec.{T, leb}
+use lib.ListN.{length}
+use Rattle.model.specs.Counting.{count}
+use Rattle.model.specs.State.{State, base, edge, near, below, phi, pairs}
+use Rattle.model.specs.Bytes.{noMate, rankAt, mateAt, phiAt, read, write}
+use Rattle.model.specs.Valid.{Valid}
+use Rattle.model.specs.Moves.{Ends}
+use Rattle.model.proofs.Tests.{eq?, leb-yes, leb-no}
+use Rattle.model.proofs.Prefix.{count-ext}
+use Rattle.model.proofs.Fields.{rank-write, mate-write, phi-write}
+use Rattle.model.proofs.Limits.{size-few, edge-inside, edge-loop, mate-inside, mateEntry-free, mateEntry-mate}
+use Rattle.model.proofs.Reading.{read-write}
+use Rattle.theory.specs.Demand.{pairsOf, neighboursBelow, Disjoint, Covers, Mates, Facts}
+use Rattle.theory.proofs.ChangeStep.{ledger}
+use Rattle.theory.proofs.Matching.{base-one, maximal, twice, cover}
+use Rattle.theory.proofs.OnBytes.{write-sized, write-good, pairs-of}
+
+module _ (s : State) (ok : Valid base s) where
+  few : s .n ≤ 256
+  few = size-few ok
+
+  -- the entry of a vertex, by its mate
+  entry-free : (v : ℕ) → v < s .n → s .mate v ≡ v → mateAt (write s) v ≡ noMate
+  entry-free v l e = mate-write s v (omega (arith, few)) ∙ mateEntry-free s v e
+
+  entry-mate : (v : ℕ) → v < s .n → s .mate v ≢ v → mateAt (write s) v ≡ s .mate v
+  entry-mate v l e = mate-write s v (omega (arith, few)) ∙ mateEntry-mate s v e
+
+  free-entry : (v : ℕ) → v < s .n → mateAt (write s) v ≡ noMate → s .mate v ≡ v
+  free-entry v l e = elim (eq? (s .mate v) v) [
+    | inl p ↦ p
+    | inr p ↦ absurd (omega (arith, few, mate-inside ok v p, entry-mate v l p))
+  ]
+
+  rank-is : (v : ℕ) → v < s .n → rankAt (write s) v ≡ s .rank v
+  rank-is v l = rank-write s v (omega (arith, few))
+
+  mates-of : (v w : ℕ) → v < s .n → s .mate v ≢ v → s .mate v ≡ w → Mates (ledger s) (write s) v w
+  unfolding base
+  mates-of v w l d e =
+      let m : s .mate v < s .n = mate-inside ok v d in
+      let back : s .mate w ≡ v = ap (s .mate) (sym e) ∙ ok .mates-back v in
+      let ne : s .mate w ≢ w = λ f. d (e ∙ sym f ∙ back) in
+      let lw : w < s .n = omega arith in
+      let r : rankAt (write s) v ≡ s .rank v = rank-is v l in
+      let pos : s .rank v ≢ 0 = λ z. d (ok .low-free v z) in
+      record {
+        back = entry-mate w lw ne ∙ back;
+        linked = subst (λ (x : ℕ). T (edge s v x)) e (ok .mates-linked v d);
+        level = rank-is w lw ∙ ap (s .rank) (sym e) ∙ ok .mates-level v ∙ sym r;
+        at-least-0 = omega arith;
+        at-most-3 = omega (arith, ok .ranks v);
+      }
+
+  -- the neighbours below a level, read from the bytes
+  below-is : (v j : ℕ) → below s v j ≡ neighboursBelow (ledger s) (write s) v j
+  unfolding below near neighboursBelow
+  below-is v j = count-ext _ _ (s .n) (λ w l. ap (λ (x : ℕ). edge s v w && leb x j) (sym (rank-is w l)))
+
+  phi-below : (v j : ℕ) → v < s .n → j < 4 → rankAt (write s) v ≤ j → phiAt (write s) v j ≡ below s v j
+  unfolding phi
+  phi-below v j l h k =
+      phi-write s v j (omega (arith, few)) h
+      ∙ rw (leb-yes (s .rank v) j (omega (arith, rank-is v l)), phi) refl
+
+  pub last-facts : Facts (ledger s) (write s)
+  unfolding base phi
+  last-facts = record {
+    is-sized = write-sized s;
+    is-sound = write-good s ok;
+    links = λ v w. ap (λ (x : State). edge x v w) (read-write base s ok);
+    no-loop = edge-loop ok;
+    inside = edge-inside ok;
+    maximal = λ v w t a b.
+        let i = edge-inside ok v w t in
+        maximal base base-one s ok v w t (free-entry v (i .0) a) (free-entry w (i .1) b);
+    mates = λ v l d.
+        let ne : s .mate v ≢ v = λ e. d (entry-free v l e) in
+        mates-of v (mateAt (write s) v) l ne (sym (entry-mate v l ne));
+    free-low = λ v l e. rank-is v l ∙ ok .free-low v (free-entry v l e);
+    low-free = λ v l e. entry-free v l (ok .low-free v (sym (rank-is v l) ∙ e));
+    counts = λ v j l h k. phi-below v j l h k ∙ below-is v j;
+    counts-low = λ v j l h k.
+        let p : phiAt (write s) v j ≡ phi s v j = phi-write s v j (omega (arith, few)) h in
+        omega (arith, p, ok .phi-low v j (omega arith), phi-below v j l h k, below-is v j);
+    counts-zero = λ v j l h k.
+        phi-write s v j (omega (arith, few)) h ∙ rw (leb-no (s .rank v) j (omega (arith, rank-is v l)), phi) refl;
+    twice = λ m d. subst (λ (x : ℕ). length m ≤ 2 * x) (pairs-of s ok) (twice base base-one s ok m d);
+    cover = λ c t. subst (λ (x : ℕ). x ≤ length c) (pairs-of s ok) (cover base s ok c t);
+  }
