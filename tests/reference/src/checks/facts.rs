@@ -1,0 +1,170 @@
+//! The facts that hold of a rack after a list of changes, with links and
+//! neighbours taken from the book and levels and mates from the bytes.
+
+use super::book::{links_in, Book};
+use super::exact::{largest_pairing, smallest_cover, MOST_BOARDS};
+use super::{holds, same};
+use crate::Answer;
+
+fn level(rack: &[u8], v: u32) -> i32 {
+    i32::from(rack[8 + v as usize]) - 1
+}
+
+/// The mate that a rack's bytes give a board.
+pub fn mate(rack: &[u8], v: u32) -> u32 {
+    let at = 264 + 2 * v as usize;
+    u32::from(rack[at]) | u32::from(rack[at + 1]) << 8
+}
+
+/// "The pairs are the book's links whose ends name each other as mates".
+pub fn pairs(rack: &[u8], book: &Book) -> Vec<(u32, u32)> {
+    let named = |&(a, b): &(u32, u32)| mate(rack, a) == b && mate(rack, b) == a;
+    book.links.iter().copied().filter(named).collect()
+}
+
+/// All facts of a rack and its book.
+pub fn of_rack(rack: &[u8], book: &Book) -> Result<(), String> {
+    // "the last rack's rows, read in the same way, must give the same links"
+    holds(
+        "the rows give the book's links",
+        links_in(rack) == book.links,
+    )?;
+    let idle = |v: u32| mate(rack, v) == 65_535;
+    for &(a, b) in &book.links {
+        holds("no link has two idle ends", !(idle(a) && idle(b)))?;
+    }
+    mates(rack, book)?;
+    counts(rack, book)?;
+    if book.n <= MOST_BOARDS {
+        bounds(rack, book)?;
+    }
+    Ok(())
+}
+
+/// Mates are linked, name each other and stand on one level.
+fn mates(rack: &[u8], book: &Book) -> Result<(), String> {
+    for v in 0..book.n {
+        let w = mate(rack, v);
+        if w == 65_535 {
+            same("level of an idle board", level(rack, v), -1)?;
+            continue;
+        }
+        holds("a mate is a board", w < book.n)?;
+        holds("mates are linked", book.has(v, w))?;
+        same("mate of a mate", mate(rack, w), v)?;
+        same("level of a mate", level(rack, w), level(rack, v))?;
+        holds(
+            "a board with a mate is at 0 to 3",
+            (0..4).contains(&level(rack, v)),
+        )?;
+    }
+    Ok(())
+}
+
+/// Every count at j, from the book's links, is below 4^j.
+fn counts(rack: &[u8], book: &Book) -> Result<(), String> {
+    for (j, limit) in [(0, 1), (1, 4), (2, 16), (3, 64)] {
+        let mut below = vec![0; book.n as usize];
+        for &(a, b) in &book.links {
+            below[a as usize] += u32::from(level(rack, b) < j);
+            below[b as usize] += u32::from(level(rack, a) < j);
+        }
+        let over = (0..book.n).find(|&v| level(rack, v) < j && below[v as usize] >= limit);
+        same("board with a count over its threshold", over, None)?;
+    }
+    Ok(())
+}
+
+/// The pairs are at least half of a largest pairing and at most a smallest
+/// cover.
+fn bounds(rack: &[u8], book: &Book) -> Result<(), String> {
+    let links: Vec<(u32, u32)> = book.links.iter().copied().collect();
+    let held = pairs(rack, book).len() as u32;
+    let largest = largest_pairing(book.n, &links);
+    let cover = smallest_cover(book.n, &links);
+    holds(
+        "twice the pairs reach a largest pairing",
+        2 * held >= largest,
+    )?;
+    holds("the pairs are at most a largest pairing", held <= largest)?;
+    holds("the pairs are at most a smallest cover", held <= cover)
+}
+
+/// The facts of an accepted change's answer: its pairs, its draws and its new
+/// pairs.
+pub fn of_answer(
+    rack: &[u8],
+    book: &Book,
+    answer: &Answer,
+    new_pairs: &[(u32, u32)],
+) -> Result<(), String> {
+    same("pairs", answer.pairs, pairs(rack, book).len() as u32)?;
+    same("draws", answer.draws, new_pairs.len() as u32)?;
+    holds("draws are at most n div 2", answer.draws <= book.n / 2)?;
+    let mut boards: Vec<u32> = new_pairs.iter().flat_map(|&(u, y)| [u, y]).collect();
+    boards.sort_unstable();
+    let twice = boards.windows(2).any(|two| two[0] == two[1]);
+    holds("no board is in two new pairs", !twice)
+}
+
+/// The neighbours below level j, by the book and the levels of these bytes.
+fn neighbours(rack: &[u8], book: &Book, v: u32, j: i32) -> Vec<u32> {
+    let low = (0..book.n).filter(|&w| level(rack, w) < j);
+    low.filter(|&w| w != v && book.has(v, w)).collect()
+}
+
+/// The first rise of an add, worked out from the book after it and the levels
+/// before it: the new pair of the riser and the board at the word's place, or
+/// none if no level is reached.
+pub fn first_of_add(before: &[u8], book: &Book, a: u32, b: u32, word: u32) -> Option<(u32, u32)> {
+    let mut best: Option<(i32, u32)> = None;
+    for (j, limit) in [(0, 1), (1, 4), (2, 16), (3, 64)] {
+        for v in [a.max(b), a.min(b)] {
+            let above = j > level(before, a) && j > level(before, b);
+            if above && neighbours(before, book, v, j).len() >= limit {
+                // The last one found is the highest level's lower number.
+                best = Some((j, v));
+            }
+        }
+    }
+    let (j, riser) = best?;
+    let below = neighbours(before, book, riser, j);
+    Some((riser, below[word as usize % below.len()]))
+}
+
+/// The first new pair of a drop that parts a and b, if the lower of them has
+/// neighbours enough to stay on its level: it draws before anything else.
+pub fn first_of_drop(before: &[u8], book: &Book, a: u32, b: u32, word: u32) -> Option<(u32, u32)> {
+    let (v, i) = (a.min(b), level(before, a));
+    let below = neighbours(before, book, v, i);
+    let stays = below.len() >= 1 << (2 * i);
+    stays.then(|| (v, below[word as usize % below.len()]))
+}
+
+/// The bytes of a rack after a link was put in or taken out and nothing else
+/// happened: the link number, one row bit and the counts of both ends.
+pub fn only_link_changed(before: &[u8], add: bool, a: u32, b: u32) -> Vec<u8> {
+    let mut rack = before.to_vec();
+    let one = |byte: u8| if add { byte + 1 } else { byte - 1 };
+    let links = u16::from_le_bytes([rack[2], rack[3]]);
+    let links = if add { links + 1 } else { links - 1 };
+    rack[2..4].copy_from_slice(&links.to_le_bytes());
+    for (v, w) in [(a, b), (b, a)] {
+        let bit = 1 << (w % 8);
+        let row = &mut rack[(1800 + 32 * v + w / 8) as usize];
+        // "the owner is the end of higher level, on equal levels the lower
+        // number."
+        let (own, other) = (level(before, v), level(before, w));
+        if add && (own > other || (own == other && v < w)) {
+            *row |= bit;
+        }
+        if !add {
+            *row &= !bit;
+        }
+        for j in own.max(other) + 1..4 {
+            let count = &mut rack[(776 + 4 * v) as usize + j as usize];
+            *count = one(*count);
+        }
+    }
+    rack
+}

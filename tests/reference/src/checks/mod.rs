@@ -1,0 +1,91 @@
+//! The checks of this program upon itself: seeded, repeatable, bounded by
+//! counts. Each check gives the line to print, or says what failed.
+
+pub mod audits;
+pub mod bench;
+pub mod book;
+pub mod cases;
+pub mod exact;
+pub mod facts;
+pub mod fans;
+pub mod makers;
+pub mod random;
+pub mod refusals;
+pub mod shape;
+pub mod small;
+pub mod texts;
+pub mod traces;
+pub mod walk;
+pub mod wanderings;
+
+/// What a check gives: the line to print, or what failed.
+pub type Verdict = Result<String, String>;
+
+/// What the changes of all checks came to.
+#[derive(Clone, Debug, Default)]
+pub struct Tally {
+    /// Changes asked for, and those among them that were refused.
+    pub changes: u64,
+    pub refused: u64,
+    /// Draws of all changes, and the most draws and falls of one.
+    pub draws: u64,
+    pub most_draws: u32,
+    pub most_falls: u32,
+    /// New pairs standing at each level after their change.
+    pub standing: [u64; 4],
+}
+
+impl Tally {
+    /// One line about the changes tried since an earlier tally.
+    pub fn since(&self, earlier: &Tally) -> String {
+        format!(
+            "{} changes, {} refused, {} draws",
+            self.changes - earlier.changes,
+            self.refused - earlier.refused,
+            self.draws - earlier.draws
+        )
+    }
+}
+
+/// An error saying what was wanted and what came, if they differ.
+pub fn same<T: PartialEq + std::fmt::Debug>(what: &str, came: T, wanted: T) -> Result<(), String> {
+    if came == wanted {
+        return Ok(());
+    }
+    Err(format!("{what}: wanted {wanted:?}, came {came:?}"))
+}
+
+/// An error saying what doesn't hold.
+pub fn holds(what: &str, yes: bool) -> Result<(), String> {
+    if yes {
+        return Ok(());
+    }
+    Err(format!("does not hold: {what}"))
+}
+
+/// All checks in order, each with its line to print.
+pub fn all(print: &mut dyn FnMut(&str)) -> Result<Tally, String> {
+    let mut tally = Tally::default();
+    type Check = fn(&mut Tally) -> Verdict;
+    let checks: [Check; 14] = [
+        bench::worked_example,
+        bench::bench_cases,
+        cases::hand_worked,
+        fans::fans,
+        refusals::calls_turned_back,
+        refusals::changes_turned_back,
+        refusals::runs_turned_back,
+        audits::audits_agree,
+        small::every_small_rack,
+        wanderings::from_empty_racks,
+        wanderings::from_random_racks,
+        wanderings::from_large_random_racks,
+        texts::damaged_lines,
+        traces::random_texts,
+    ];
+    for check in checks {
+        let line = check(&mut tally)?;
+        print(&line);
+    }
+    Ok(tally)
+}

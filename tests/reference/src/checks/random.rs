@@ -1,0 +1,58 @@
+//! A small repeatable source of random numbers (splitmix64).
+
+pub struct Random {
+    state: u64,
+}
+
+impl Random {
+    pub fn new(seed: u64) -> Random {
+        Random { state: seed }
+    }
+
+    /// 64 random bits.
+    pub fn bits(&mut self) -> u64 {
+        self.state = self.state.wrapping_add(0x9e37_79b9_7f4a_7c15);
+        let mut mixed = self.state;
+        mixed = (mixed ^ (mixed >> 30)).wrapping_mul(0xbf58_476d_1ce4_e5b9);
+        mixed = (mixed ^ (mixed >> 27)).wrapping_mul(0x94d0_49bb_1331_11eb);
+        mixed ^ (mixed >> 31)
+    }
+
+    /// A number from 0 to k-1.
+    pub fn below(&mut self, k: usize) -> usize {
+        (self.bits() % k as u64) as usize
+    }
+
+    /// A number from low to high, both possible.
+    pub fn between(&mut self, low: usize, high: usize) -> usize {
+        low + self.below(high - low + 1)
+    }
+
+    /// Yes in so many of a hundred cases.
+    pub fn percent(&mut self, share: usize) -> bool {
+        self.below(100) < share
+    }
+
+    pub fn pick<T: Copy>(&mut self, among: &[T]) -> T {
+        among[self.below(among.len())]
+    }
+
+    pub fn shuffle<T>(&mut self, list: &mut [T]) {
+        for last in (1..list.len()).rev() {
+            list.swap(last, self.below(last + 1));
+        }
+    }
+
+    /// A draw word: mostly any, at times small, at times the highest.
+    pub fn word(&mut self) -> u32 {
+        match self.below(8) {
+            0 | 1 => self.below(6) as u32,
+            2 => u32::MAX,
+            _ => self.bits() as u32,
+        }
+    }
+
+    pub fn words(&mut self, length: usize) -> Vec<u32> {
+        (0..length).map(|_| self.word()).collect()
+    }
+}

@@ -1,0 +1,182 @@
+//! Random trace texts, whole and damaged, with the record told from the calls
+//! one by one.
+
+use super::random::Random;
+use super::texts::first_bad_line;
+use super::{holds, same, Tally, Verdict};
+use crate::{change, level, make, mate, run, Outcome};
+use crate::{RACK_BYTES, RECORD_SPACE, TEXT_LIMIT};
+
+const SEEDS: u64 = 6_000;
+
+pub fn random_texts(tally: &mut Tally) -> Verdict {
+    let (mut read, mut bad) = (0, 0);
+    for seed in 0..SEEDS {
+        let mut random = Random::new(0x7e87_0000 + seed);
+        let mut text = random_text(&mut random);
+        for _ in 0..random.pick(&[0, 0, 1, 1, 1, 2, 5]) {
+            damage(&mut random, &mut text);
+        }
+        let fits = one_text(&text, tally).map_err(|why| format!("text of seed {seed}: {why}"))?;
+        if fits {
+            read += 1;
+        } else {
+            bad += 1;
+        }
+    }
+    Ok(format!("{read} random texts run, {bad} turned back: ok"))
+}
+
+fn one_text(text: &[u8], tally: &mut Tally) -> Result<bool, String> {
+    let (mut rack, mut record) = (vec![7; RACK_BYTES], vec![8; RECORD_SPACE + 5]);
+    let outcome = run(&mut rack, text, &mut record);
+    let wanted = wanted(text, tally);
+    let (last, lines) = match wanted {
+        Ok(both) => both,
+        Err((number, line)) => {
+            let turned_back = Outcome {
+                number,
+                line,
+                length: 0,
+            };
+            same("outcome", outcome, turned_back)?;
+            let untouched = rack.iter().all(|&byte| byte == 7);
+            holds("the rack stays", untouched)?;
+            holds("the record stays", record.iter().all(|&byte| byte == 8))?;
+            return Ok(false);
+        }
+    };
+    same("outcome", (outcome.number, outcome.line), (0, 0))?;
+    let (told, past) = record.split_at(outcome.length);
+    same(
+        "record",
+        String::from_utf8_lossy(told).as_ref(),
+        lines.as_str(),
+    )?;
+    holds(
+        "bytes past the record stay",
+        past.iter().all(|&byte| byte == 8),
+    )?;
+    holds("the rack is that of the changes", rack == last)?;
+    Ok(true)
+}
+
+/// What a run must come to: the number and line that turn it back, or the
+/// last rack and the record. The text fits by the other way of telling, so its
+/// numbers are read by cutting at all that isn't a digit.
+fn wanted(text: &[u8], tally: &mut Tally) -> Result<(Vec<u8>, String), (u32, usize)> {
+    if text.len() > TEXT_LIMIT {
+        return Err((2, 0));
+    }
+    if let Some(line) = first_bad_line(text) {
+        return Err((4, line));
+    }
+    let text = String::from_utf8_lossy(text).into_owned();
+    let mut rack = vec![0; RACK_BYTES];
+    let mut lines = text.lines();
+    let first = lines.next().unwrap_or("");
+    let n = numbers(first)[0];
+    if make(&mut rack, n) == 5 {
+        return Err((5, 0));
+    }
+    let mut record = format!("{first}\n");
+    for line in lines {
+        record += &told(&mut rack, line, tally);
+    }
+    record += &ending(&rack, n);
+    Ok((rack, record))
+}
+
+fn numbers(line: &str) -> Vec<u32> {
+    let runs = line.split(|letter: char| !letter.is_ascii_digit());
+    runs.filter_map(|run| run.parse().ok()).collect()
+}
+
+fn told(rack: &mut [u8], line: &str, tally: &mut Tally) -> String {
+    let numbers = numbers(line);
+    let code = if line.contains("add") { 1 } else { 2 };
+    let answer = change(rack, code, numbers[0], numbers[1], &numbers[2..]);
+    tally.changes += 1;
+    tally.draws += u64::from(answer.draws);
+    tally.refused += u64::from(answer.number != 0);
+    match answer.number {
+        0 => format!(
+            "(done (draws {}) (falls {}) (pairs {}))\n",
+            answer.draws, answer.falls, answer.pairs
+        ),
+        number => format!("(refused {number})\n"),
+    }
+}
+
+/// The pair lines and the end line.
+fn ending(rack: &[u8], n: u32) -> String {
+    let mut lines = String::new();
+    let mut pairs = 0;
+    for a in 0..n {
+        let (_, b) = mate(rack, a);
+        if b < n && a < b {
+            let (_, at) = level(rack, a);
+            lines += &format!("(pair ({a} {b}) (level {at}))\n");
+            pairs += 1;
+        }
+    }
+    lines + &format!("(end (pairs {pairs}))\n")
+}
+
+fn random_text(random: &mut Random) -> Vec<u8> {
+    let n = match random.below(200) {
+        0..=9 => random.pick(&[0, 257, 1 << 31, u32::MAX as usize]),
+        10 | 11 => random.between(60, 256),
+        12..=21 => 1,
+        _ => random.between(2, 12),
+    };
+    let mut text = format!("(rack (boards {n}))\n");
+    for _ in 0..random.between(0, 60) {
+        let name = random.pick(&["add", "add", "add", "drop"]);
+        let (a, b) = (random_board(random, n), random_board(random, n));
+        let enough = (n / 2).min(128);
+        let number = random.pick(&[enough, enough, enough, enough.max(1) - 1, 128]);
+        let words = random.words(number);
+        let words: String = words.iter().map(|word| format!(" {word}")).collect();
+        let line = format!("({name} ({a} {b}) (draws{words}))\n");
+        if text.len() + line.len() <= TEXT_LIMIT || random.percent(1) {
+            text += &line;
+        }
+    }
+    text.into_bytes()
+}
+
+fn random_board(random: &mut Random, n: usize) -> usize {
+    if random.percent(2) {
+        return random.pick(&[n, n + 1, 256]).min(u32::MAX as usize);
+    }
+    random.below(n.max(1))
+}
+
+/// One byte put in, taken out or changed, two swapped, a piece said twice, or
+/// the end cut off.
+fn damage(random: &mut Random, text: &mut Vec<u8>) {
+    let letters = b"()0123456789 adroprawsckb\n\r\t";
+    let byte = if random.percent(80) {
+        random.pick(letters)
+    } else {
+        random.bits() as u8
+    };
+    let at = random.below(text.len().max(1));
+    match random.below(6) {
+        _ if text.is_empty() => text.push(byte),
+        0 => text.insert(at, byte),
+        1 => drop(text.remove(at)),
+        2 => text[at] = byte,
+        3 => {
+            let other = random.below(text.len());
+            text.swap(at, other);
+        }
+        4 => {
+            let end = (at + random.below(30)).min(text.len());
+            let piece = text[at..end].to_vec();
+            text.splice(at..at, piece);
+        }
+        _ => text.truncate(text.len() - random.below(text.len().min(40))),
+    }
+}

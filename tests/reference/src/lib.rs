@@ -1,0 +1,21 @@
+//! The pairing rack of document 01, written plainly from the paper alone.
+//!
+//! Nothing here is made to be fast. Links stand in a square table, every count
+//! is worked out from its definition whenever it is asked for, and the bytes
+//! of a rack are written afresh after each change. Other programs for the same
+//! paper are set against this one.
+
+pub mod calls;
+pub mod checks;
+pub mod grammar;
+pub mod image;
+pub mod moves;
+pub mod rack;
+pub mod sound;
+pub mod trace;
+
+pub use calls::{audit, change, change_with_pairs, level, linked, make, mate, Answer};
+pub use image::{IDLE, RACK_BYTES};
+pub use rack::Rack;
+pub use sound::sound;
+pub use trace::{program, run, Outcome, RECORD_SPACE, TEXT_LIMIT};

@@ -1,0 +1,203 @@
+//! The elementary moves, the settling, and what an add and a drop do.
+
+use crate::rack::{threshold, Rack, HIGHEST};
+
+/// One change in play: the rack, the words lent, and what happened so far.
+pub struct Play<'a> {
+    rack: &'a mut Rack,
+    words: &'a [u32],
+    used: usize,
+    falls: usize,
+    new_pairs: Vec<(usize, usize)>,
+}
+
+/// What a change did: the words it used, its falls, and the u and the y of
+/// each of its draws in order.
+#[derive(Clone, Debug, PartialEq, Eq)]
+pub struct Done {
+    pub draws: usize,
+    pub falls: usize,
+    pub new_pairs: Vec<(usize, usize)>,
+}
+
+/// Adds the link a-b, which isn't there, to a sound rack.
+pub fn add(rack: &mut Rack, a: usize, b: usize, words: &[u32]) -> Done {
+    let mut play = Play::start(rack, words);
+    play.put_link(a, b);
+    if let Some((u, i)) = play.search_for_a_rise(a, b) {
+        play.part(u);
+        play.rise(u, i);
+        play.draw(u, i);
+        play.settle();
+    }
+    play.finish()
+}
+
+/// Drops the link a-b, which is there, from a sound rack. "If its ends were
+/// mates, part them and settle. Otherwise no level changes."
+pub fn drop(rack: &mut Rack, a: usize, b: usize, words: &[u32]) -> Done {
+    let mut play = Play::start(rack, words);
+    play.rack.owner[a][b] = false;
+    play.rack.owner[b][a] = false;
+    if play.rack.mate[a] == Some(b) {
+        play.part(a);
+        play.settle();
+    }
+    play.finish()
+}
+
+impl Play<'_> {
+    fn start<'a>(rack: &'a mut Rack, words: &'a [u32]) -> Play<'a> {
+        Play {
+            rack,
+            words,
+            used: 0,
+            falls: 0,
+            new_pairs: Vec::new(),
+        }
+    }
+
+    fn finish(self) -> Done {
+        Done {
+            draws: self.used,
+            falls: self.falls,
+            new_pairs: self.new_pairs,
+        }
+    }
+
+    /// "Add: the owner is the end of higher level, on equal levels the lower
+    /// number."
+    fn put_link(&mut self, a: usize, b: usize) {
+        let (low, high) = (a.min(b), a.max(b));
+        if self.rack.level[high] > self.rack.level[low] {
+            self.rack.owner[high][low] = true;
+        } else {
+            self.rack.owner[low][high] = true;
+        }
+    }
+
+    /// "The search for a rise stops at the first level, from 3 downwards to
+    /// one above both ends, that either end's count reaches. None: finished.
+    /// If both reach it, the lower number rises."
+    fn search_for_a_rise(&self, a: usize, b: usize) -> Option<(usize, i32)> {
+        let above_both = self.rack.level[a].max(self.rack.level[b]) + 1;
+        let mut i = HIGHEST;
+        while i >= above_both {
+            for end in [a.min(b), a.max(b)] {
+                if self.rack.reaches(end, i) {
+                    return Some((end, i));
+                }
+            }
+            i -= 1;
+        }
+        None
+    }
+
+    /// Parts the pair of v, if it has a mate. Both are idle then, and wait if
+    /// their level is 0 or more.
+    fn part(&mut self, v: usize) {
+        if let Some(w) = self.rack.mate[v] {
+            self.rack.mate[v] = None;
+            self.rack.mate[w] = None;
+        }
+    }
+
+    /// "Rise of u to i: u takes ownership of every link to a board then below
+    /// i. Other owners stand."
+    fn rise(&mut self, u: usize, i: i32) {
+        self.rack.level[u] = i;
+        for w in self.rack.neighbours_below(u, i) {
+            self.rack.owner[u][w] = true;
+            self.rack.owner[w][u] = false;
+        }
+    }
+
+    /// "The next unused word is used."
+    fn next_word(&mut self) -> u32 {
+        let word = self.words[self.used];
+        self.used += 1;
+        word
+    }
+
+    /// "Draw at u, level i: list u's neighbours below i by rising number, k of
+    /// them; the chosen one stands at place (word mod k), places from 0. [...]
+    /// If the chosen y has a mate, that pair is parted. Then y rises to i, and
+    /// u and y are mates."
+    fn draw(&mut self, u: usize, i: i32) {
+        let below = self.rack.neighbours_below(u, i);
+        let k = below.len();
+        let y = below[self.next_word() as usize % k];
+        self.part(y);
+        self.rise(y, i);
+        self.rack.mate[u] = Some(y);
+        self.rack.mate[y] = Some(u);
+        self.new_pairs.push((u, y));
+    }
+
+    /// "Taking a waiting v at level i": hand on, then draw if "k is at least
+    /// 4^i", and fall if not.
+    fn take(&mut self, v: usize) {
+        let i = self.rack.level[v];
+        self.hand_on(v, i);
+        let k = self.rack.neighbours_below(v, i).len();
+        if k >= threshold(i) {
+            self.draw(v, i);
+        } else {
+            self.fall(v, i);
+        }
+    }
+
+    /// "v hands each owned link whose other end is also at level i to that
+    /// end."
+    fn hand_on(&mut self, v: usize, i: i32) {
+        for w in 0..self.rack.n {
+            if self.rack.owner[v][w] && self.rack.level[w] == i {
+                self.rack.owner[v][w] = false;
+                self.rack.owner[w][v] = true;
+            }
+        }
+    }
+
+    /// "v falls to i-1. Then the boards to which v owned links just after the
+    /// fall are gone through by rising number". The list is made once; each
+    /// board is looked at when its turn comes.
+    fn fall(&mut self, v: usize, i: i32) {
+        self.rack.level[v] = i - 1;
+        self.falls += 1;
+        let owned: Vec<usize> = (0..self.rack.n)
+            .filter(|&w| self.rack.owner[v][w])
+            .collect();
+        for w in owned {
+            self.look_at(w, i);
+        }
+    }
+
+    /// "each one that is below i with a count at i of at least 4^i loses its
+    /// mate if it has one, rises to i and draws."
+    fn look_at(&mut self, w: usize, i: i32) {
+        if self.rack.level[w] < i && self.rack.reaches(w, i) {
+            self.part(w);
+            self.rise(w, i);
+            self.draw(w, i);
+        }
+    }
+
+    /// "The settling: while any board waits, take one of the highest level,
+    /// lowest number first."
+    fn settle(&mut self) {
+        while let Some(v) = self.next_waiting() {
+            self.take(v);
+        }
+    }
+
+    fn next_waiting(&self) -> Option<usize> {
+        for i in (0..=HIGHEST).rev() {
+            for v in 0..self.rack.n {
+                if self.rack.waiting(v) && self.rack.level[v] == i {
+                    return Some(v);
+                }
+            }
+        }
+        None
+    }
+}

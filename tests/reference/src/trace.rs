@@ -1,0 +1,108 @@
+//! Running a trace text to a record, and what the program prints.
+
+use crate::calls::{board_number_fits, change_rack, Answer};
+use crate::grammar::{self, Trace};
+use crate::image::RACK_BYTES;
+use crate::rack::Rack;
+
+/// "2. The trace text is over 16,384 bytes."
+pub const TEXT_LIMIT: usize = 16_384;
+
+/// "3. The record space is under 65,536 bytes."
+pub const RECORD_SPACE: usize = 65_536;
+
+/// The answer of a run: 0 and the record's length, or the number with its line
+/// (0 unless the number is 4).
+#[derive(Clone, Copy, Debug, PartialEq, Eq)]
+pub struct Outcome {
+    pub number: u32,
+    pub line: usize,
+    pub length: usize,
+}
+
+/// Runs a trace text. Turned back, it writes nothing lent; otherwise the rack
+/// buffer "holds the last state at the end" and the record stands at the start
+/// of the record space, whose further bytes "keep their values".
+pub fn run(rack: &mut [u8], text: &[u8], record: &mut [u8]) -> Outcome {
+    let trace = match wanted(rack.len(), text, record.len()) {
+        Ok(trace) => trace,
+        Err(outcome) => return outcome,
+    };
+    let (last, lines) = play(&trace);
+    rack.copy_from_slice(&last.to_bytes());
+    record[..lines.len()].copy_from_slice(lines.as_bytes());
+    Outcome {
+        number: 0,
+        line: 0,
+        length: lines.len(),
+    }
+}
+
+/// "a trace 1 to 5", first fit first; otherwise the trace that was read.
+fn wanted(rack: usize, text: &[u8], record: usize) -> Result<Trace, Outcome> {
+    if rack != RACK_BYTES {
+        return Err(turned_back(1, 0));
+    }
+    if text.len() > TEXT_LIMIT {
+        return Err(turned_back(2, 0));
+    }
+    if record < RECORD_SPACE {
+        return Err(turned_back(3, 0));
+    }
+    let trace = grammar::read(text).map_err(|line| turned_back(4, line))?;
+    if !board_number_fits(trace.boards) {
+        return Err(turned_back(5, 0));
+    }
+    Ok(trace)
+}
+
+fn turned_back(number: u32, line: usize) -> Outcome {
+    Outcome {
+        number,
+        line,
+        length: 0,
+    }
+}
+
+/// "The record repeats line 1, has one line for each change, then the pairs by
+/// rising lower board, then the end line".
+fn play(trace: &Trace) -> (Rack, String) {
+    let mut rack = Rack::empty(trace.boards as usize);
+    let mut lines = format!("(rack (boards {}))\n", trace.boards);
+    for step in &trace.steps {
+        let (answer, _) = change_rack(&mut rack, step.code, step.a, step.b, &step.words);
+        lines += &change_line(&answer);
+    }
+    for (a, b) in rack.pairs() {
+        lines += &format!("(pair ({a} {b}) (level {}))\n", rack.level[a]);
+    }
+    lines += &format!("(end (pairs {}))\n", rack.pairs().len());
+    (rack, lines)
+}
+
+/// "An accepted change has the line `(done (draws D) (falls F) (pairs P))` with
+/// its figures. A refused change (8 to 12) gives its number K as
+/// `(refused K)`".
+fn change_line(answer: &Answer) -> String {
+    if answer.number != 0 {
+        return format!("(refused {})\n", answer.number);
+    }
+    format!(
+        "(done (draws {}) (falls {}) (pairs {}))\n",
+        answer.draws, answer.falls, answer.pairs
+    )
+}
+
+/// What the program prints for its standard input: "the record, or
+/// `(bad K L)`: K the number, L the first line that doesn't fit for number 4,
+/// otherwise 0."
+pub fn program(input: &[u8]) -> Vec<u8> {
+    let mut rack = vec![0; RACK_BYTES];
+    let mut record = vec![0; RECORD_SPACE];
+    let outcome = run(&mut rack, input, &mut record);
+    if outcome.number != 0 {
+        return format!("(bad {} {})\n", outcome.number, outcome.line).into_bytes();
+    }
+    record.truncate(outcome.length);
+    record
+}
