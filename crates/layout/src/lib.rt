@@ -5,6 +5,7 @@ ghost use Prim.Native.Nat.{_<_, _≤_, _+_, _*_};
 ghost use lib.ListN.{length, replicate};
 ghost use Rattle.model.specs.State.{base, empty};
 ghost use Rattle.model.specs.Bytes.{most as mostOf, sizeAt, edgesAt, rankAt, mateAt, phiAt, ownsAt, write};
+ghost use Rattle.model.specs.Calls.{sized as sizedOf};
 ghost use Rattle.layout.specs.Setters.{Sized, setEdges, setRank, setMate, setPhi, own as owned, disown as disowned, blanked};
 ghost use Rattle.layout.specs.Rows.{degreeAt, NthOwned, NextOwned};
 
@@ -31,6 +32,27 @@ fn join(lo: u8, hi: u8) -> u16
     ensures { λ r. ⌜ r ≡ lo + 256 * hi ⌝ }
 {
     lo as u16 + 256 * (hi as u16)
+}
+
+// The most vertices of a rack.
+pub fn most() -> usize
+    ensures { λ r. ⌜ r ≡ mostOf ⌝ }
+{
+    256
+}
+
+// Whether the bytes are as many as a rack has.
+pub fn sized(rack: &[u8]) -> bool
+    ensures { λ r. ⌜ r ≡ sizedOf (now (rack .entry)) ⌝ }
+{
+    rack.len() == 9992
+}
+
+// A row of bits for vertices, with none in it.
+pub fn empty_row() -> [u8; 32]
+    ensures { λ r. ⌜ r ≡ replicate 32 0 ⌝ }
+{
+    [0u8; 32]
 }
 
 // The number of vertices.
