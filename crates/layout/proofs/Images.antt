@@ -14,83 +14,36 @@ use Rattle.model.proofs.Tests.{eq?}
 use Rattle.model.proofs.Prefix.{count-ext}
 use Rattle.model.proofs.Lists.{upd-same, upd-other}
 use Rattle.model.proofs.Chunks.{behind, each-length, each-at, each-one-length, each-one-at}
-use Rattle.model.proofs.Fields.{owns-image}
+use Rattle.model.proofs.Fields.{heads, ranks, mates, phis, rows, parts, heads-length, ranks-length, mates-length, phis-length, row-byte, owns-image}
 use Rattle.layout.specs.Setters.{setTwo, setEdges, setRank, setMate, setPhi, own, disown}
 use Rattle.layout.specs.Rows.{degreeAt}
 use Rattle.layout.proofs.Pieces.{set-behind, each-ext, set-each, each-one-ext, set-each-one, rowByte-ext, rowByte-other, rowByte-or, rowByte-and}
 
--- ---- the parts of an image
-
-two-length : (x : ℕ) → length (two x) ≡ 2
-unfolding two
-two-length x = refl
+-- ---- what is set in a part of an image
 
 module _ (f : Fields) where
-  abbrev heads : List ℕ
-  heads = two (f .n) ++ (two (f .edges) ++ replicate 4 0)
-
-  abbrev ranks : List ℕ
-  ranks = each 256 (λ v. f .rank v ∷ [])
-
-  abbrev mates : List ℕ
-  mates = each 256 (λ v. two (f .mate v))
-
-  abbrev phis : List ℕ
-  phis = each 256 (λ v. each 4 (λ j. f .phi v j ∷ []))
-
-  abbrev rows : List ℕ
-  rows = each 256 (λ v. each 32 (λ k. rowByte (f .owns v) k ∷ []))
-
-  parts : image f ≡ heads ++ (ranks ++ (mates ++ (phis ++ rows)))
-  unfolding image two
-  parts = refl
-
-  heads-length : length heads ≡ 8
-  unfolding two
-  heads-length = refl
-
-  ranks-length : length ranks ≡ 256
-  ranks-length = each-one-length (f .rank) 256
-
-  mates-length : length mates ≡ 512
-  mates-length = each-length 2 (λ v. two (f .mate v)) (λ v. two-length (f .mate v)) 256
-
-  phis-length : length phis ≡ 1024
-  phis-length = each-length 4 (λ v. each 4 (λ j. f .phi v j ∷ [])) (λ v. each-one-length (f .phi v) 4) 256
-
   -- what is set behind some parts leaves those parts as they are
-  past-heads : (t : List ℕ) (i x : ℕ) → set (heads ++ t) (8 + i) x ≡ heads ++ set t i x
-  past-heads t i x = set-behind heads t 8 i x heads-length
+  past-heads : (t : List ℕ) (i x : ℕ) → set (heads f ++ t) (8 + i) x ≡ heads f ++ set t i x
+  past-heads t i x = set-behind (heads f) t 8 i x (heads-length f)
 
-  past-ranks : (t : List ℕ) (i x : ℕ) → set (heads ++ (ranks ++ t)) (264 + i) x ≡ heads ++ (ranks ++ set t i x)
+  past-ranks : (t : List ℕ) (i x : ℕ) → set (heads f ++ (ranks f ++ t)) (264 + i) x ≡ heads f ++ (ranks f ++ set t i x)
   past-ranks t i x =
       let e : 264 + i ≡ 8 + (256 + i) = omega arith in
-      ap (λ (k : ℕ). set (heads ++ (ranks ++ t)) k x) e ∙ past-heads (ranks ++ t) (256 + i) x
-      ∙ ap (λ (s : List ℕ). heads ++ s) (set-behind ranks t 256 i x ranks-length)
+      ap (λ (k : ℕ). set (heads f ++ (ranks f ++ t)) k x) e ∙ past-heads (ranks f ++ t) (256 + i) x
+      ∙ ap (λ (s : List ℕ). heads f ++ s) (set-behind (ranks f) t 256 i x (ranks-length f))
 
-  past-mates : (t : List ℕ) (i x : ℕ) → set (heads ++ (ranks ++ (mates ++ t))) (776 + i) x ≡ heads ++ (ranks ++ (mates ++ set t i x))
+  past-mates : (t : List ℕ) (i x : ℕ) → set (heads f ++ (ranks f ++ (mates f ++ t))) (776 + i) x ≡ heads f ++ (ranks f ++ (mates f ++ set t i x))
   past-mates t i x =
       let e : 776 + i ≡ 264 + (512 + i) = omega arith in
-      ap (λ (k : ℕ). set (heads ++ (ranks ++ (mates ++ t))) k x) e ∙ past-ranks (mates ++ t) (512 + i) x
-      ∙ ap (λ (s : List ℕ). heads ++ (ranks ++ s)) (set-behind mates t 512 i x mates-length)
+      ap (λ (k : ℕ). set (heads f ++ (ranks f ++ (mates f ++ t))) k x) e ∙ past-ranks (mates f ++ t) (512 + i) x
+      ∙ ap (λ (s : List ℕ). heads f ++ (ranks f ++ s)) (set-behind (mates f) t 512 i x (mates-length f))
 
   past-phis : (t : List ℕ) (i x : ℕ)
-      → set (heads ++ (ranks ++ (mates ++ (phis ++ t)))) (1800 + i) x ≡ heads ++ (ranks ++ (mates ++ (phis ++ set t i x)))
+      → set (heads f ++ (ranks f ++ (mates f ++ (phis f ++ t)))) (1800 + i) x ≡ heads f ++ (ranks f ++ (mates f ++ (phis f ++ set t i x)))
   past-phis t i x =
       let e : 1800 + i ≡ 776 + (1024 + i) = omega arith in
-      ap (λ (k : ℕ). set (heads ++ (ranks ++ (mates ++ (phis ++ t)))) k x) e ∙ past-mates (phis ++ t) (1024 + i) x
-      ∙ ap (λ (s : List ℕ). heads ++ (ranks ++ (mates ++ s))) (set-behind phis t 1024 i x phis-length)
-
-  -- byte k of row v
-  row-byte : (v k : ℕ) → v < 256 → k < 32 → getD (image f) (1800 + (32 * v + k)) 0 ≡ rowByte (f .owns v) k
-  row-byte v k l c =
-      let i : ℕ = 32 * v + k in
-      let e : 1800 + i ≡ 8 + (256 + (512 + (1024 + i))) = omega arith in
-      ap₂ (λ (s : List ℕ) (m : ℕ). getD s m 0) parts e ∙ behind heads _ 8 (256 + (512 + (1024 + i))) heads-length
-      ∙ behind ranks _ 256 (512 + (1024 + i)) ranks-length ∙ behind mates _ 512 (1024 + i) mates-length
-      ∙ behind phis rows 1024 i phis-length
-      ∙ each-at 32 (λ v. each 32 (λ k. rowByte (f .owns v) k ∷ [])) (λ v. each-one-length (rowByte (f .owns v)) 32) 256 v k 0 l c
-      ∙ each-one-at (rowByte (f .owns v)) 32 k 0 c
+      ap (λ (k : ℕ). set (heads f ++ (ranks f ++ (mates f ++ (phis f ++ t)))) k x) e ∙ past-mates (phis f ++ t) (1024 + i) x
+      ∙ ap (λ (s : List ℕ). heads f ++ (ranks f ++ (mates f ++ s))) (set-behind (phis f) t 1024 i x (phis-length f))
 
 -- ---- images by their fields
 

@@ -11,51 +11,60 @@ use Rattle.model.proofs.Chunks.{behind, each-length, each-at, each-one-
 
 module _ (f : Fields) where
   -- the parts of a written rack
-  heads : List ℕ
+  abbrev pub heads : List ℕ
   heads = two (f .n) ++ (two (f .edges) ++ replicate 4 0)
 
-  ranks : List ℕ
+  abbrev pub ranks : List ℕ
   ranks = each most (λ v. f .rank v ∷ [])
 
-  mates : List ℕ
+  abbrev pub mates : List ℕ
   mates = each most (λ v. two (f .mate v))
 
-  phis : List ℕ
+  abbrev pub phis : List ℕ
   phis = each most (λ v. each 4 (λ j. f .phi v j ∷ []))
 
-  rows : List ℕ
+  abbrev pub rows : List ℕ
   rows = each most (λ v. each 32 (λ k. rowByte (f .owns v) k ∷ []))
 
-  parts : image f ≡ heads ++ (ranks ++ (mates ++ (phis ++ rows)))
-  unfolding image heads ranks mates phis rows two
+  pub parts : image f ≡ heads ++ (ranks ++ (mates ++ (phis ++ rows)))
+  unfolding image two
   parts = refl
 
-  heads-length : length heads ≡ 8
-  unfolding heads two
+  pub heads-length : length heads ≡ 8
+  unfolding two
   heads-length = refl
 
-  ranks-length : length ranks ≡ 256
-  unfolding ranks
+  pub ranks-length : length ranks ≡ 256
   ranks-length = each-one-length (f .rank) 256
 
   two-length : (v : ℕ) → length (two (f .mate v)) ≡ 2
   unfolding two
   two-length v = refl
 
-  mates-length : length mates ≡ 512
-  unfolding mates
+  pub mates-length : length mates ≡ 512
   mates-length = each-length 2 (λ v. two (f .mate v)) two-length 256
 
-  phis-length : length phis ≡ 1024
-  unfolding phis
+  pub phis-length : length phis ≡ 1024
   phis-length = each-length 4 (λ v. each 4 (λ j. f .phi v j ∷ [])) (λ v. each-one-length (f .phi v) 4) 256
 
-  rows-length : length rows ≡ 8192
-  unfolding rows
+  pub rows-length : length rows ≡ 8192
   rows-length = each-length 32 (λ v. each 32 (λ k. rowByte (f .owns v) k ∷ [])) (λ v. each-one-length (rowByte (f .owns v)) 32) 256
 
   pub image-length : length (image f) ≡ rackLength
-  image-length = ap length parts ∙ simp length-append (omega (arith, heads-length, ranks-length, mates-length, phis-length, rows-length))
+  image-length =
+      ap length parts
+      ∙ length-append heads (ranks ++ (mates ++ (phis ++ rows)))
+      ∙ omega (
+        arith,
+        heads-length,
+        length-append ranks (mates ++ (phis ++ rows)),
+        length-append mates (phis ++ rows),
+        length-append phis rows,
+        ranks-length,
+        mates-length,
+        phis-length,
+        rows-length,
+      )
 
   -- what stands from each part on
   from-ranks : (i : ℕ) → getD (image f) (8 + i) 0 ≡ getD (ranks ++ (mates ++ (phis ++ rows))) i 0
@@ -86,19 +95,18 @@ module _ (f : Fields) where
   edges-image = omega arith
 
   pub spare-image : (k : ℕ) → k < 4 → getD (image f) (4 + k) 0 ≡ 0
-  unfolding heads two
+  unfolding two
   spare-image k l =
       ap (λ (x : List ℕ). getD x (4 + k) 0) parts
       ∙ List·getD-append heads (ranks ++ (mates ++ (phis ++ rows))) 0 (4 + k) (omega (arith, heads-length))
       ∙ behind (two (f .n) ++ two (f .edges)) (replicate 4 0) 4 k refl ∙ getD-replicate 4 k 0 0 l
 
   pub rank-image : (v : ℕ) → v < 256 → rankAt (image f) v ≡ f .rank v
-  unfolding rankAt ranks
+  unfolding rankAt
   rank-image v l =
       from-ranks v ∙ List·getD-append ranks _ 0 v (omega (arith, ranks-length)) ∙ each-one-at (f .rank) 256 v 0 l
 
   mate-byte : (v i : ℕ) → v < 256 → i < 2 → getD (image f) (264 + (2 * v + i)) 0 ≡ getD (two (f .mate v)) i 0
-  unfolding mates
   mate-byte v i l h =
       from-mates (2 * v + i) ∙ List·getD-append mates _ 0 (2 * v + i) (omega (arith, mates-length))
       ∙ each-at 2 (λ v. two (f .mate v)) two-length 256 v i 0 l h
@@ -112,13 +120,12 @@ module _ (f : Fields) where
       ∙ omega (arith, mate-byte v 0 l (omega arith), mate-byte v 1 l (omega arith))
 
   pub phi-image : (v j : ℕ) → v < 256 → j < 4 → phiAt (image f) v j ≡ f .phi v j
-  unfolding phiAt phis
+  unfolding phiAt
   phi-image v j l h =
       from-phis (4 * v + j) ∙ List·getD-append phis _ 0 (4 * v + j) (omega (arith, phis-length))
       ∙ each-at 4 (λ v. each 4 (λ j. f .phi v j ∷ [])) (λ v. each-one-length (f .phi v) 4) 256 v j 0 l h ∙ each-one-at (f .phi v) 4 j 0 h
 
-  row-byte : (v k : ℕ) → v < 256 → k < 32 → getD (image f) (1800 + (32 * v + k)) 0 ≡ rowByte (f .owns v) k
-  unfolding rows
+  pub row-byte : (v k : ℕ) → v < 256 → k < 32 → getD (image f) (1800 + (32 * v + k)) 0 ≡ rowByte (f .owns v) k
   row-byte v k l h =
       from-rows (32 * v + k)
       ∙ each-at 32 (λ v. each 32 (λ k. rowByte (f .owns v) k ∷ [])) (λ v. each-one-length (rowByte (f .owns v)) 32) 256 v k 0 l h

@@ -1,5 +1,5 @@
 -- Laws of lists of numbers, and the pigeonhole. Assumes nothing.
-use mathlib.Core.Path.{_≡_, refl, sym, subst}
+use mathlib.Core.Path.{_≡_, refl, sym, subst, _∙_}
 use mathlib.Core.Logic.{_≢_, _⊎_, inl, inr}
 use mathlib.Core.Bool.{Bool, true, false}
 use mathlib.Core.List.{List, [], _∷_}
@@ -10,7 +10,7 @@ use lib.ListN.{length, getD}
 use Rattle.model.specs.Lists.{All, Mem, Distinct}
 use Rattle.model.specs.Counting.{sum, count, listedOnto, listed, upd}
 use Rattle.model.proofs.Tests.{eq?, bool?, T-true, T-false, eqb-yes, eqb-no}
-use Rattle.model.proofs.Counting.{minus, minus-of, count-minus, count-bound}
+use Rattle.model.proofs.Counting.{minus, minus-of, count-minus, count-bound, count-none}
 
 pub All-map : (P Q : ℕ → Type 0) (l : List ℕ) → ((x : ℕ) → P x → Q x) → All P l → All Q l
 All-map P Q [] f h = tt
@@ -100,3 +100,11 @@ pub getD-mem : (l : List ℕ) (i : ℕ) → i < length l → Mem (getD l i 0) l
 getD-mem [] i h = absurd (omega arith)
 getD-mem (x ∷ l) zero h = inl refl
 getD-mem (x ∷ l) (suc i) h = inr (getD-mem l i (omega arith))
+
+nil-of : (l : List ℕ) → length l ≡ 0 → l ≡ []
+nil-of [] h = refl
+nil-of (x ∷ l) h = absurd (omega arith)
+
+-- where none passes, the list is empty
+pub listed-none : (p : ℕ → Bool) (n : ℕ) → ((v : ℕ) → v < n → T (p v) → ⊥) → listed p n ≡ []
+listed-none p n h = nil-of (listed p n) (listed-length p n ∙ count-none p n h)

@@ -24,7 +24,6 @@ pub mod SameRuns
 pub mod Owners
 pub mod Instance
 pub mod Rows
-pub mod More
 pub mod Loops
 pub mod HandLoops
 pub mod OnBytes
