@@ -1,6 +1,7 @@
 // The fields of the rack bytes: each accessor takes the whole buffer and answers or changes one field. Above this crate no offset and no
 // size of the rack is written. The contracts cite the reading of the bytes in `model` and specs/; callers use the laws of proofs/.
 ghost use mathlib.Core.Path.{_≡_};
+ghost use mathlib.Core.Bool.{_||_};
 ghost use Prim.Native.Nat.{_<_, _≤_, _+_, _*_};
 ghost use lib.ListN.{length, replicate};
 ghost use Rattle.model.specs.State.{base, empty};
@@ -143,6 +144,19 @@ pub fn owns(rack: &[u8], v: usize, w: usize) -> bool
     ensures { λ r. ⌜ r ≡ ownsAt (now (rack .entry)) v w ⌝ }
 {
     bitset::test(rack, 14400 + (256 * v + w))
+}
+
+// Whether there is an edge v-w: one of its ends owns it.
+pub fn linked(rack: &[u8], v: usize, w: usize) -> bool
+    requires { ⌜ Sized (now rack) ⌝ }
+    requires { ⌜ v < mostOf ⌝ }
+    requires { ⌜ w < mostOf ⌝ }
+    ensures { λ r. ⌜ r ≡ ownsAt (now (rack .entry)) v w || ownsAt (now (rack .entry)) w v ⌝ }
+{
+    if owns(rack, v, w) {
+        return true;
+    }
+    owns(rack, w, v)
 }
 
 pub fn own(rack: &mut [u8], v: usize, w: usize)
