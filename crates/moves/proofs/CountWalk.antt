@@ -1,0 +1,195 @@
+-- A walk along a vertex's row that gives each vertex met its new counts, with the rest of the bytes as they were. Assumes nothing.
+use mathlib.Core.Path.{_≡_, refl, sym, ap, _∙_, subst}
+use mathlib.Core.Logic.{_≢_, inl, inr}
+use mathlib.Core.Bool.{Bool, _&&_}
+use mathlib.Core.List.{List}
+use Prim.Native.Nat.{ℕ, suc, _+_, _-_, _≤_, _<_}
+use native.Mathlib.Omega.{arith}
+use lib.Dec.{T, leb, eqb, leb→le, le→leb, eqb→eq}
+use lib.ListN.{length}
+use Rattle.model.specs.Counting.{upd}
+use Rattle.model.specs.State.{State, edge, near, phi}
+use Rattle.model.specs.Bytes.{rankAt, phiAt, ownsAt, image, fieldsOf, write}
+use Rattle.model.proofs.Tests.{eq?, le?, T-true, T-false, true-T, and-intro, and-left, and-right, eqb-yes}
+use Rattle.model.proofs.Lists.{upd-same, upd-other}
+use Rattle.model.proofs.Fields.{image-length, rank-image, phi-image, owns-image}
+use Rattle.layout.specs.Setters.{Sized, setPhi}
+use Rattle.moves.specs.Proper.{Proper, RowBelow}
+use Rattle.moves.specs.Counts.{withCounts, loweredFrom, hit, loweredCounts, raisedCounts}
+use Rattle.moves.proofs.Held.{NextIn}
+use Rattle.moves.proofs.CountSteps.{counts-ext, lowered-image, setCount-image}
+
+-- ---- bytes that are the writing of s but for the counts
+
+abbrev pub Counted : State → (ℕ → ℕ → ℕ) → List ℕ → Type 0
+Counted s g bs = bs ≡ image (withCounts (fieldsOf s) g)
+
+pub counted-write : (s : State) (bs : List ℕ) → bs ≡ write s → Counted s (phi s) bs
+unfolding write fieldsOf withCounts
+counted-write s bs e = e
+
+module _ (s : State) (g : ℕ → ℕ → ℕ) (bs : List ℕ) (e : Counted s g bs) where
+  pub counted-sized : Sized bs
+  counted-sized = ap length e ∙ image-length (withCounts (fieldsOf s) g)
+
+  pub counted-rank : (v : ℕ) → v < 256 → rankAt bs v ≡ s .rank v
+  unfolding withCounts fieldsOf
+  counted-rank v l = ap (λ (x : List ℕ). rankAt x v) e ∙ rank-image (withCounts (fieldsOf s) g) v l
+
+  pub counted-phi : (v j : ℕ) → v < 256 → j < 4 → phiAt bs v j ≡ g v j
+  unfolding withCounts
+  counted-phi v j l k = ap (λ (x : List ℕ). phiAt x v j) e ∙ phi-image (withCounts (fieldsOf s) g) v j l k
+
+  pub counted-owns : (v w : ℕ) → v < 256 → w < 256 → ownsAt bs v w ≡ s .owns v w
+  unfolding withCounts fieldsOf
+  counted-owns v w l k = ap (λ (x : List ℕ). ownsAt x v w) e ∙ owns-image (withCounts (fieldsOf s) g) v w l k
+
+-- ---- the walk
+
+-- the vertices below w have their new counts, the others the old ones, and u owns the edge to w if there is such a vertex
+pub record Walked (s : State) (new : ℕ → ℕ → ℕ) (u : ℕ) (bs : List ℕ) (w : ℕ) : Type 0 where
+  pub counts : ℕ → ℕ → ℕ
+  pub is : Counted s counts bs
+  pub done : (x j : ℕ) → x < w → counts x j ≡ new x j
+  pub left : (x j : ℕ) → w ≤ x → counts x j ≡ phi s x j
+  pub here : w < s .n → T (s .owns u w)
+
+-- the new counts change nothing where u owns no edge
+abbrev pub Quiet : State → (ℕ → ℕ → ℕ) → ℕ → Type 0
+Quiet s new u = (x j : ℕ) → (T (s .owns u x) → ⊥) → new x j ≡ phi s x j
+
+module _ (s : State) (new : ℕ → ℕ → ℕ) (u : ℕ) (quiet : Quiet s new u) where
+  pub walk-start : (bs : List ℕ) (r : ℕ) → bs ≡ write s → NextIn s u 0 r → Walked s new u bs r
+  walk-start bs r e n =
+      record {
+        counts = phi s;
+        is = counted-write s bs e;
+        done = λ x j l. sym (quiet x j (n .none x (omega arith) l));
+        left = λ x j l. refl;
+        here = n .is;
+      }
+
+  -- one vertex more, and on to the next
+  pub walk-step : (bs : List ℕ) (w : ℕ) (k : Walked s new u bs w) (next : List ℕ) (r : ℕ)
+      → Counted s (upd (k .counts) w (new w)) next → NextIn s u (w + 1) r → Walked s new u next r
+  walk-step bs w k next r e n =
+      let other : (x j : ℕ) → x ≢ w → upd (k .counts) w (new w) x j ≡ k .counts x j =
+      λ x j d. ap (λ (f : ℕ → ℕ). f j) (upd-other (k .counts) w (new w) x d) in
+      record {
+        counts = upd (k .counts) w (new w);
+        is = e;
+        done = λ x j l. elim (eq? x w) [
+          | inl p ↦ ap (λ (f : ℕ → ℕ). f j) (upd-same (k .counts) w (new w) x p) ∙ ap (λ (y : ℕ). new y j) (sym p)
+          | inr d ↦ other x j d ∙ elim (le? w x) [
+            | inl p ↦ k .left x j p ∙ sym (quiet x j (n .none x (omega arith) l))
+            | inr p ↦ k .done x j p
+          ]
+        ];
+        left = λ x j l. other x j (omega (arith, n .after)) ∙ k .left x j (omega (arith, n .after));
+        here = n .is;
+      }
+
+  -- the row is walked
+  pub walk-end : Proper s → (bs : List ℕ) (w : ℕ) → s .n ≤ w → Walked s new u bs w → Counted s new bs
+  unfolding withCounts
+  walk-end p bs w l k =
+      k .is ∙ counts-ext (withCounts (fieldsOf s) (k .counts)) new (λ x j. elim (le? w x) [
+        | inl b ↦ quiet x j (λ t. omega (arith, p .inside u x t .1)) ∙ sym (k .left x j b)
+        | inr b ↦ sym (k .done x j b)
+      ])
+
+-- a row of counts put in at w
+row-at : (f : ℕ → ℕ → ℕ) (w : ℕ) (row : ℕ → ℕ) (j : ℕ) → upd f w row w j ≡ row j
+row-at f w row j = ap (λ (h : ℕ → ℕ). h j) (upd-same f w row w refl)
+
+row-kept : (f : ℕ → ℕ → ℕ) (w : ℕ) (row : ℕ → ℕ) (x j : ℕ) → (x ≡ w → row j ≡ f w j) → upd f w row x j ≡ f x j
+row-kept f w row x j d = elim (eq? x w) [
+  | inl p ↦ ap (λ (h : ℕ → ℕ). h j) (upd-same f w row x p) ∙ d p ∙ ap (λ (y : ℕ). f y j) (sym p)
+  | inr p ↦ ap (λ (h : ℕ → ℕ). h j) (upd-other f w row x p)
+]
+
+-- ---- counts that are raised at i
+
+raised-yes : (s : State) (i v w j : ℕ) → T (s .owns v w) → j ≡ i → raisedCounts s i v w j ≡ suc (phi s w j)
+unfolding raisedCounts
+raised-yes s i v w j t e =
+    let b : Bool = s .owns v w && eqb j i in
+    rw (T-true {b = b} (and-intro (s .owns v w) (eqb j i) t (true-T (eqb-yes j i e))), raisedCounts) refl
+
+raised-no : (s : State) (i v w j : ℕ) → (T (s .owns v w) → j ≢ i) → raisedCounts s i v w j ≡ phi s w j
+unfolding raisedCounts
+raised-no s i v w j d =
+    let b : Bool = s .owns v w && eqb j i in
+    let no : T b → ⊥ = λ t. d (and-left (s .owns v w) (eqb j i) t) (eqb→eq j i (and-right (s .owns v w) (eqb j i) t)) in
+    rw (T-false {b = b} no, raisedCounts) refl
+
+pub raised-quiet : (s : State) (i v : ℕ) → Quiet s (raisedCounts s i v) v
+raised-quiet s i v x j d = raised-no s i v x j (λ t. absurd (d t))
+
+-- one count raised
+pub raised-turn : (s : State) (i v : ℕ) (bs : List ℕ) (w : ℕ) (k : Walked s (raisedCounts s i v) v bs w) (next : List ℕ) (y : ℕ)
+    → w < 256 → i < 4 → T (s .owns v w) → y ≡ phiAt bs w i → next ≡ setPhi bs w i (y + 1)
+    → Counted s (upd (k .counts) w (raisedCounts s i v w)) next
+unfolding withCounts
+raised-turn s i v bs w k next y l b t e f =
+    let new : ℕ → ℕ = raisedCounts s i v w in
+    let more : y + 1 ≡ suc (phi s w i) =
+    omega (arith, e, counted-phi s (k .counts) bs (k .is) w i l b, k .left w i (omega arith)) in
+    f ∙ ap (λ (x : List ℕ). setPhi x w i (y + 1)) (k .is)
+    ∙ setCount-image (withCounts (fieldsOf s) (k .counts)) w i (y + 1) (upd (k .counts) w new) l b
+    (row-at (k .counts) w new i ∙ raised-yes s i v w i t refl ∙ sym more)
+    (λ x j d. row-kept (k .counts) w new x j (λ p. raised-no s i v w j (λ _. d p) ∙ sym (k .left w j (omega arith))))
+
+-- ---- counts that are lowered from the higher of two ranks up to i
+
+lowered-yes : (s : State) (i u w j : ℕ) → T (hit s i u w j) → loweredCounts s i u w j ≡ phi s w j - 1
+unfolding loweredCounts
+lowered-yes s i u w j t = rw (T-true {b = hit s i u w j} t, loweredCounts) refl
+
+lowered-no : (s : State) (i u w j : ℕ) → (T (hit s i u w j) → ⊥) → loweredCounts s i u w j ≡ phi s w j
+unfolding loweredCounts
+lowered-no s i u w j d = rw (T-false {b = hit s i u w j} d, loweredCounts) refl
+
+module _ (s : State) (i u w j : ℕ) where
+  pub hit-of : T (s .owns u w) → s .rank u ≤ j → s .rank w ≤ j → j ≤ i → T (hit s i u w j)
+  unfolding hit
+  hit-of t a b c =
+      and-intro (s .owns u w) _ t
+      (and-intro (leb (s .rank u) j) _ (le→leb _ _ a) (and-intro (leb (s .rank w) j) _ (le→leb _ _ b) (le→leb _ _ c)))
+
+  hit-owns : T (hit s i u w j) → T (s .owns u w)
+  unfolding hit
+  hit-owns t = and-left (s .owns u w) _ t
+
+  hit-ranks : T (hit s i u w j) → (s .rank u ≤ j) × ((s .rank w ≤ j) × (j ≤ i))
+  unfolding hit
+  hit-ranks t =
+      let r = and-right (s .owns u w) _ t in
+      let q = and-right (leb (s .rank u) j) _ r in (
+        leb→le _ _ (and-left (leb (s .rank u) j) _ r),
+        (leb→le _ _ (and-left (leb (s .rank w) j) _ q), leb→le _ _ (and-right (leb (s .rank w) j) _ q)),
+      )
+
+-- a vertex to which u owns an edge is below level i, if u's row is that of its neighbours there
+pub row-low : (s : State) (i u w : ℕ) → RowBelow i u s → T (s .owns u w) → s .rank w ≤ i
+unfolding near
+row-low s i u w row t = leb→le _ _ (and-right (edge s u w) (leb (s .rank w) i) (subst T (row w) t))
+
+pub lowered-quiet : (s : State) (i u : ℕ) → Quiet s (loweredCounts s i u) u
+lowered-quiet s i u x j d = lowered-no s i u x j (λ t. d (hit-owns s i u x j t))
+
+-- the counts of one vertex lowered
+pub lowered-turn : (s : State) (i u : ℕ) (bs : List ℕ) (w : ℕ) (k : Walked s (loweredCounts s i u) u bs w) (next : List ℕ)
+    → w < 256 → i < 4 → T (s .owns u w) → (j : ℕ) → s .rank u ≤ j → s .rank w ≤ j → ((x : ℕ) → s .rank u ≤ x → s .rank w ≤ x → j ≤ x)
+    → j ≤ i → next ≡ loweredFrom bs w j (i + 1 - j) → Counted s (upd (k .counts) w (loweredCounts s i u w)) next
+unfolding withCounts
+lowered-turn s i u bs w k next l b t j h₁ h₂ least h₃ f =
+    let new : ℕ → ℕ = loweredCounts s i u w in
+    let old : (x : ℕ) → k .counts w x ≡ phi s w x = λ x. k .left w x (omega arith) in
+    let ranks : (x : ℕ) → T (hit s i u w x) → (s .rank u ≤ x) × ((s .rank w ≤ x) × (x ≤ i)) = hit-ranks s i u w in
+    f ∙ ap (λ (x : List ℕ). loweredFrom x w j (i + 1 - j)) (k .is)
+    ∙ lowered-image (withCounts (fieldsOf s) (k .counts)) w j (i + 1 - j) (upd (k .counts) w new) l (omega arith)
+    (λ x p q. row-at (k .counts) w new x ∙ lowered-yes s i u w x (hit-of s i u w x t (omega arith) (omega arith) (omega arith))
+    ∙ ap (λ (z : ℕ). z - 1) (sym (old x)))
+    (λ v x d. row-kept (k .counts) w new v x
+    (λ e. lowered-no s i u w x (λ h. d e (least x (ranks x h .0) (ranks x h .1 .0)) (omega (arith, ranks x h .1 .1))) ∙ sym (old x)))

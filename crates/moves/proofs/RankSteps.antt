@@ -1,0 +1,52 @@
+-- The steps of a lift and of a fall lead to the writing of the state with the new rank. Assumes nothing.
+use mathlib.Core.Path.{_≡_, ap, _∙_}
+use mathlib.Core.List.{List}
+use Prim.Native.Nat.{ℕ, suc, _+_, _≤_, _<_}
+use native.Mathlib.Numerals.{add-one}
+use native.Mathlib.Omega.{arith}
+use Rattle.model.specs.Counting.{count}
+use Rattle.model.specs.State.{base, State, edge, phi, edges}
+use Rattle.model.specs.Bytes.{image, mateEntry, fieldsOf, write}
+use Rattle.layout.specs.Setters.{setRank, setPhi}
+use Rattle.layout.proofs.Images.{withRank, setRank-image}
+use Rattle.moves.specs.Proper.{Proper, ranked, RowBelow}
+use Rattle.moves.specs.Counts.{withCounts, zeroedBelow, loweredCounts, raisedCounts}
+use Rattle.moves.proofs.Keeps.{ranked-proper}
+use Rattle.moves.proofs.Recount.{phi-fits, lift-own, lift-phi, fall-own, fall-phi}
+use Rattle.moves.proofs.CountSteps.{setCount-image, zeroed-image}
+
+-- a new rank, where the counts are those of the new rank already
+ranked-image : (s : State) (v x : ℕ) → v < 256
+    → setRank (image (withCounts (fieldsOf s) (phi (ranked v x s)))) v x ≡ write (ranked v x s)
+unfolding withRank withCounts fieldsOf write ranked edges edge mateEntry
+ranked-image s v x l = setRank-image (withCounts (fieldsOf s) (phi (ranked v x s))) v x l
+
+module _ (s : State) (p : Proper s) (i v : ℕ) (l : v < s .n) (top : i ≤ base .top) (row : RowBelow i v s) where
+  lift-counts : s .rank v ≤ i
+      → zeroedBelow (image (withCounts (fieldsOf s) (loweredCounts s i v))) v (i + 1)
+      ≡ image (withCounts (fieldsOf s) (phi (ranked v (suc i) s)))
+  unfolding withCounts base
+  lift-counts r =
+      zeroed-image (withCounts (fieldsOf s) (loweredCounts s i v)) v (i + 1) (phi (ranked v (suc i) s)) (omega (arith, p .few))
+      (omega arith) (λ j k. lift-own s p i v j l (omega arith)) (λ w j d. lift-phi s p i v w j l r row (λ e. omega (arith, d e)))
+
+  pub lift-bytes : s .rank v ≤ i
+      → setRank (zeroedBelow (image (withCounts (fieldsOf s) (loweredCounts s i v))) v (i + 1)) v (i + 1) ≡ write (ranked v (suc i) s)
+  lift-bytes r =
+      ap (λ (bs : List ℕ). setRank bs v (i + 1)) (lift-counts r) ∙ rw add-one (ranked-image s v (suc i) (omega (arith, p .few)))
+
+  module _ (r : s .rank v ≡ suc i) where
+    -- the count of v at i is the number of edges that it owns
+    fall-counts : setPhi (image (withCounts (fieldsOf s) (raisedCounts s i v))) v i (count (s .owns v) (s .n))
+        ≡ image (withCounts (fieldsOf s) (phi (ranked v i s)))
+    unfolding withCounts base
+    fall-counts =
+        setCount-image (withCounts (fieldsOf s) (raisedCounts s i v)) v i (count (s .owns v) (s .n)) (phi (ranked v i s))
+        (omega (arith, p .few)) (omega arith) (fall-own s p i v l r row) (λ w j d. fall-phi s p i v w j l r row d)
+
+    pub fall-bytes : setRank (setPhi (image (withCounts (fieldsOf s) (raisedCounts s i v))) v i (count (s .owns v) (s .n))) v i
+        ≡ write (ranked v i s)
+    fall-bytes = ap (λ (bs : List ℕ). setRank bs v i) fall-counts ∙ ranked-image s v i (omega (arith, p .few))
+
+    pub fall-fits : count (s .owns v) (s .n) < 256
+    fall-fits = omega (arith, fall-own s p i v l r row, phi-fits (ranked v i s) (ranked-proper s p v i l (omega arith)) v i)

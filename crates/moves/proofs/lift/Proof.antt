@@ -1,0 +1,71 @@
+-- `moves::lift` meets its contract: the lowered counts, u's own counts and its rank are those of the state with u at rank i + 1. Assumes
+-- nothing.
+use mathlib.Core.Path.{ap, _∙_}
+use mathlib.Core.List.{List}
+use Prim.Native.Nat.{ℕ, _+_}
+use native.Mathlib.Omega.{arith}
+use borrow.Author.Needs.{needs}
+use Rattle.model.specs.State.{base}
+use Rattle.model.specs.Bytes.{read}
+use Rattle.layout.specs.Setters.{setRank}
+use Rattle.moves.specs.Counts.{zeroedBelow}
+use Rattle.moves.proofs.Held.{held-sized, held-small}
+use Rattle.moves.proofs.RankSteps.{lift-bytes}
+use Rattle.moves.proofs.lift.Statement.{statement}
+use Rattle.moves.proofs.lift.Tie as tie
+
+lower-counts-requires : tie.Need-lower-counts-requires
+lower-counts-requires c κs = c .before .before .pre
+
+add-zero-counts : tie.Need-add-zero-counts
+unfolding base
+add-zero-counts c = omega arith
+
+zero-counts-requires : tie.Need-zero-counts-requires
+unfolding base
+zero-counts-requires c κs =
+    let lowered = c .before .before .before in
+    let p = lowered .before .before .before .pre in
+    (omega (arith, lowered .lower-counts .kept .0, held-sized (p .0)), (held-small (p .0) _ (p .1 .0 .0), omega arith))
+
+add-set-rank : tie.Need-add-set-rank
+unfolding base
+add-set-rank c = omega arith
+
+cast-set-rank : tie.Need-cast-set-rank
+unfolding base
+cast-set-rank c = omega arith
+
+set-rank-requires : tie.Need-set-rank-requires
+set-rank-requires c κs =
+    let zeroed = c .before .before .before in
+    let lowered = zeroed .before .before .before .before in
+    let p = lowered .before .before .before .pre in
+    (omega (arith, zeroed .zero-counts .kept .0, lowered .lower-counts .kept .0, held-sized (p .0)), held-small (p .0) _ (p .1 .0 .0))
+
+same-length : tie.Need-same-length
+same-length c = search needs
+
+returns : tie.Need-returns
+returns c =
+    let zeroed = c .before .before .before .before .before .before in
+    let lowered = zeroed .before .before .before .before in
+    let a = lowered .before .before .before .args in
+    let p = lowered .before .before .before .pre in
+    let last : List ℕ → List ℕ = λ bs. setRank bs (a .u) (a .i + 1) in
+    c .before .before .set-rank .ensures
+    ∙ ap last (zeroed .zero-counts .ensures ∙ ap (λ (bs : List ℕ). zeroedBelow bs (a .u) (a .i + 1)) (lowered .lower-counts .ensures))
+    ∙ lift-bytes (read (a .rack .now)) (p .0 .proper) (a .i) (a .u) (p .1 .0 .0) (p .1 .0 .2) (p .1 .1) (p .1 .0 .1)
+
+pub lift-spec : {M : Type 1} → statement M
+lift-spec =
+    tie.close
+    (tie.spec
+    lower-counts-requires
+    add-zero-counts
+    zero-counts-requires
+    add-set-rank
+    cast-set-rank
+    set-rank-requires
+    same-length
+    returns)

@@ -1,0 +1,51 @@
+-- `moves::rise` meets its contract: the owners after the first half are those that the second half asks for. Assumes nothing.
+use mathlib.Core.Path.{_≡_, sym, ap, _∙_, subst}
+use Prim.Native.Nat.{suc, _≤_, _<_}
+use borrow.Author.Needs.{needs}
+use Rattle.model.specs.State.{base, State}
+use Rattle.model.specs.Bytes.{read, write}
+use Rattle.model.specs.Change.{reown}
+use Rattle.moves.specs.Proper.{tookOver, ranked, RowBelow}
+use Rattle.moves.proofs.Held.{reads-as, held-of}
+use Rattle.moves.proofs.Keeps.{took-proper, took-row, rise-halves}
+use Rattle.moves.proofs.rise.Statement.{statement}
+use Rattle.moves.proofs.rise.Tie as tie
+
+take-over-requires : tie.Need-take-over-requires
+take-over-requires c κs = c .before .before .pre
+
+lift-requires : tie.Need-lift-requires
+unfolding tookOver reown
+lift-requires c κs =
+    let took = c .before .before .before in
+    let a = took .before .before .before .args in
+    let p = took .before .before .before .pre in
+    let s = read (a .rack .now) in
+    let t = tookOver (a .i) (a .u) s in
+    let bs = took .take-over .last .0 in
+    let q = took-proper s (p .0 .proper) (a .i) (a .u) (p .1 .0 .0) in
+    let r : t ≡ read bs = sym (reads-as bs t (took .take-over .ensures) q) in (
+      held-of bs t (took .take-over .ensures) q,
+      (
+        subst (λ (x : State). (a .u < x .n) × (x .rank (a .u) ≤ a .i) × (a .i ≤ base .top)) r (p .1 .0),
+        subst (λ (x : State). RowBelow (a .i) (a .u) x) r (took-row s (p .0 .proper) (a .i) (a .u) (p .1 .1)),
+      ),
+    )
+
+same-length : tie.Need-same-length
+same-length c = search needs
+
+returns : tie.Need-returns
+returns c =
+    let took = c .before .before .before .before .before .before in
+    let a = took .before .before .before .args in
+    let p = took .before .before .before .pre in
+    let s = read (a .rack .now) in
+    let t = tookOver (a .i) (a .u) s in
+    let q = took-proper s (p .0 .proper) (a .i) (a .u) (p .1 .0 .0) in
+    let r : read (took .take-over .last .0) ≡ t = reads-as _ t (took .take-over .ensures) q in
+    c .before .before .lift .ensures ∙ ap (λ (x : State). write (ranked (a .u) (suc (a .i)) x)) r
+    ∙ ap write (rise-halves s (p .0 .proper) (a .i) (a .u))
+
+pub rise-spec : {M : Type 1} → statement M
+rise-spec = tie.close (tie.spec take-over-requires lift-requires same-length returns)

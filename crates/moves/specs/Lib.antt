@@ -1,0 +1,3 @@
+-- The definitions that the contracts of `moves` cite, beside the moves of `model`.
+pub mod Proper
+pub mod Counts

@@ -1,0 +1,188 @@
+// The moves of document 01 on the rack's bytes. Each contract says that the bytes are then the writing of the definition's state, or that
+// the bytes, the tally and the vertices that may wait are those of the definition's run.
+ghost use mathlib.Core.Path.{_≡_};
+ghost use mathlib.Core.Logic.{_≢_};
+ghost use Prim.Native.Nat.{ℕ, suc, _+_, _<_, _≤_};
+ghost use lib.Dec.{T};
+ghost use Rattle.model.specs.State.{base};
+ghost use Rattle.model.specs.Bytes.{most as mostOf, phiAt, image, fieldsOf, read, write};
+ghost use Rattle.model.specs.Moves.{part as parted, rise as risen, marry as married, handOver};
+ghost use Rattle.layout.specs.Setters.{Sized, own as owned, disown as disowned};
+ghost use Rattle.moves.specs.Proper.{Held, tookOver, ranked, RowBelow};
+ghost use Rattle.moves.specs.Counts.{withCounts, loweredFrom, zeroedBelow, loweredCounts, raisedCounts};
+
+// v's pair is parted; a free v stays as it is.
+pub fn part(rack: &mut [u8], v: usize)
+    requires { ⌜ Held (now rack) ⌝ }
+    requires { ⌜ v < read (now rack) .n ⌝ }
+    ensures { λ _. ⌜ now (rack .exit) ≡ write (parted v (read (now (rack .entry)))) ⌝ }
+{
+    let m = layout::mate(rack, v);
+    if m == 65535 {
+        return;
+    }
+    layout::set_mate(rack, m as usize, 65535);
+    layout::set_mate(rack, v, 65535);
+}
+
+// u and y are mates.
+pub fn marry(rack: &mut [u8], u: usize, y: usize)
+    requires { ⌜ Held (now rack) ⌝ }
+    requires { ⌜ (u < read (now rack) .n) × (y < read (now rack) .n) × (u ≢ y) ⌝ }
+    ensures { λ _. ⌜ now (rack .exit) ≡ write (married u y (read (now (rack .entry)))) ⌝ }
+{
+    layout::set_mate(rack, u, y as u16);
+    layout::set_mate(rack, y, u as u16);
+}
+
+// The edge v-w passes from v to w.
+fn pass(rack: &mut [u8], v: usize, w: usize)
+    requires { ⌜ Sized (now rack) ⌝ }
+    requires { ⌜ (v < mostOf) × (w < mostOf) ⌝ }
+    ensures { λ _. ⌜ now (rack .exit) ≡ owned (disowned (now (rack .entry)) v w) w v ⌝ }
+{
+    layout::disown(rack, v, w);
+    layout::own(rack, w, v);
+}
+
+// u takes every edge to a vertex below level i: the first half of a rise. Its count at i less the edges that it owns already says how many
+// owners are still to be found.
+fn take_over(rack: &mut [u8], u: usize, i: usize)
+    requires { ⌜ Held (now rack) ⌝ }
+    requires { ⌜ (u < read (now rack) .n) × (read (now rack) .rank u ≤ i) × (i ≤ base .top) ⌝ }
+    requires { ⌜ ((w : ℕ) → T (read (now rack) .owns u w) → read (now rack) .rank w ≤ i) ⌝ }
+    ensures { λ _. ⌜ now (rack .exit) ≡ write (tookOver i u (read (now (rack .entry)))) ⌝ }
+{
+    let n = layout::size(rack);
+    let mut missing = layout::phi(rack, u, i) as usize - layout::degree(rack, u);
+    let mut w = 0;
+    while w < n {
+        if missing == 0 {
+            return;
+        }
+        if layout::owns(rack, w, u) {
+            if layout::rank(rack, w) as usize <= i {
+                pass(rack, w, u);
+                missing -= 1;
+            }
+        }
+        w += 1;
+    }
+}
+
+// v hands each edge that it owns to a vertex of its own level i to that vertex.
+pub fn hand_over(rack: &mut [u8], v: usize, i: usize)
+    requires { ⌜ Held (now rack) ⌝ }
+    requires { ⌜ (v < read (now rack) .n) × (read (now rack) .rank v ≡ suc i) ⌝ }
+    ensures { λ _. ⌜ now (rack .exit) ≡ write (handOver i v (read (now (rack .entry)))) ⌝ }
+{
+    let n = layout::size(rack);
+    let mut w = layout::next_owned(rack, v, 0);
+    while w < n {
+        if layout::rank(rack, w) as usize == i + 1 {
+            pass(rack, v, w);
+        }
+        w = layout::next_owned(rack, v, w + 1);
+    }
+}
+
+// The counts of w lose 1 at the k levels from j on.
+pub fn lower(rack: &mut [u8], w: usize, j: usize, k: usize)
+    requires { ⌜ Sized (now rack) ⌝ }
+    requires { ⌜ (w < mostOf) × (j + k ≤ 4) ⌝ }
+    requires { ⌜ ((x : ℕ) → j ≤ x → x < j + k → 1 ≤ phiAt (now rack) w x) ⌝ }
+    ensures { λ _. ⌜ now (rack .exit) ≡ loweredFrom (now (rack .entry)) w j k ⌝ }
+{
+    let mut x = 0;
+    while x < k {
+        let c = layout::phi(rack, w, j + x);
+        layout::set_phi(rack, w, j + x, c - 1);
+        x += 1;
+    }
+}
+
+// The counts of the vertices to which u owns an edge lose u, which leaves its level for level i.
+fn lower_counts(rack: &mut [u8], u: usize, i: usize)
+    requires { ⌜ Held (now rack) ⌝ }
+    requires { ⌜ (u < read (now rack) .n) × (read (now rack) .rank u ≤ i) × (i ≤ base .top) ⌝ }
+    requires { ⌜ RowBelow i u (read (now rack)) ⌝ }
+    ensures { λ _. ⌜ now (rack .exit) ≡ image (withCounts (fieldsOf (read (now (rack .entry)))) (loweredCounts (read (now (rack .entry))) i u)) ⌝ }
+{
+    let n = layout::size(rack);
+    let from = layout::rank(rack, u) as usize;
+    let mut w = layout::next_owned(rack, u, 0);
+    while w < n {
+        let r = layout::rank(rack, w) as usize;
+        if r < from {
+            lower(rack, w, from, i + 1 - from);
+        } else {
+            lower(rack, w, r, i + 1 - r);
+        }
+        w = layout::next_owned(rack, u, w + 1);
+    }
+}
+
+// The counts of u below level k are 0.
+fn zero_counts(rack: &mut [u8], u: usize, k: usize)
+    requires { ⌜ Sized (now rack) ⌝ }
+    requires { ⌜ (u < mostOf) × (k ≤ 4) ⌝ }
+    ensures { λ _. ⌜ now (rack .exit) ≡ zeroedBelow (now (rack .entry)) u k ⌝ }
+{
+    let mut j = 0;
+    while j < k {
+        layout::set_phi(rack, u, j, 0);
+        j += 1;
+    }
+}
+
+// u stands at level i: the second half of a rise, once its edges to the vertices below i are its own.
+fn lift(rack: &mut [u8], u: usize, i: usize)
+    requires { ⌜ Held (now rack) ⌝ }
+    requires { ⌜ (u < read (now rack) .n) × (read (now rack) .rank u ≤ i) × (i ≤ base .top) ⌝ }
+    requires { ⌜ RowBelow i u (read (now rack)) ⌝ }
+    ensures { λ _. ⌜ now (rack .exit) ≡ write (ranked u (suc i) (read (now (rack .entry)))) ⌝ }
+{
+    lower_counts(rack, u, i);
+    zero_counts(rack, u, i + 1);
+    layout::set_rank(rack, u, (i + 1) as u8);
+}
+
+// "Rise of u to i: u takes ownership of every link to a board then below i. Other owners stand."
+pub fn rise(rack: &mut [u8], u: usize, i: usize)
+    requires { ⌜ Held (now rack) ⌝ }
+    requires { ⌜ (u < read (now rack) .n) × (read (now rack) .rank u ≤ i) × (i ≤ base .top) ⌝ }
+    requires { ⌜ ((w : ℕ) → T (read (now rack) .owns u w) → read (now rack) .rank w ≤ i) ⌝ }
+    ensures { λ _. ⌜ now (rack .exit) ≡ write (risen i u (read (now (rack .entry)))) ⌝ }
+{
+    take_over(rack, u, i);
+    lift(rack, u, i);
+}
+
+// The counts at i of the vertices to which v owns an edge gain v, which falls below level i.
+fn raise_counts(rack: &mut [u8], v: usize, i: usize)
+    requires { ⌜ Held (now rack) ⌝ }
+    requires { ⌜ (v < read (now rack) .n) × (read (now rack) .rank v ≡ suc i) × (i ≤ base .top) ⌝ }
+    requires { ⌜ RowBelow i v (read (now rack)) ⌝ }
+    ensures { λ _. ⌜ now (rack .exit) ≡ image (withCounts (fieldsOf (read (now (rack .entry)))) (raisedCounts (read (now (rack .entry))) i v)) ⌝ }
+{
+    let n = layout::size(rack);
+    let mut w = layout::next_owned(rack, v, 0);
+    while w < n {
+        let c = layout::phi(rack, w, i);
+        layout::set_phi(rack, w, i, c + 1);
+        w = layout::next_owned(rack, v, w + 1);
+    }
+}
+
+// "v falls to i-1", once it owns edges to vertices below i alone.
+pub fn fall(rack: &mut [u8], v: usize, i: usize)
+    requires { ⌜ Held (now rack) ⌝ }
+    requires { ⌜ (v < read (now rack) .n) × (read (now rack) .rank v ≡ suc i) × (i ≤ base .top) ⌝ }
+    requires { ⌜ RowBelow i v (read (now rack)) ⌝ }
+    ensures { λ _. ⌜ now (rack .exit) ≡ write (ranked v i (read (now (rack .entry)))) ⌝ }
+{
+    let k = layout::degree(rack, v);
+    raise_counts(rack, v, i);
+    layout::set_phi(rack, v, i, k as u8);
+    layout::set_rank(rack, v, i as u8);
+}
