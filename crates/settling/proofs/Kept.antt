@@ -1,0 +1,88 @@
+-- What every run of moves keeps, and that new pairs have no say in it. Assumes nothing.
+use mathlib.Core.Path.{_≡_, refl, sym, ap, subst}
+use mathlib.Core.Logic.{inl, inr}
+use mathlib.Core.Bool.{Bool}
+use mathlib.Core.List.{List}
+use Prim.Native.Nat.{ℕ, zero, suc, _+_, _≤_, _<_}
+use native.Mathlib.Omega.{arith}
+use lib.Dec.{T}
+use Rattle.model.specs.State.{base, State, below}
+use Rattle.model.specs.Moves.{Run, at, drawn, draw, handOver, fall, scanFrom, take}
+use Rattle.model.proofs.Tests.{le?, holds?, leb-yes, leb-no}
+use Rattle.theory.proofs.Matching.{base-pos}
+use Rattle.theory.proofs.Loops.{scanUpto, scanFrom-loop}
+use Rattle.moves.specs.Proper.{Proper, Ordered, ranked}
+use Rattle.moves.proofs.Keeps.{hand-row}
+use Rattle.settling.proofs.Steps.{kept-then, kept-none, hand-kept, fall-kept, draw-kept, visited-kept}
+use Rattle.settling.proofs.News.{same-of, same-then, at-same, draw-same, upto-none, upto-yes, upto-no, upto-room, scanFrom-same}
+pub use Rattle.settling.proofs.Steps.{Kept}
+pub use Rattle.settling.proofs.News.{Same}
+
+-- the scan: the vertices below m that pass p, which are vertices of the state
+pub upto-kept : (words : List ℕ) (i : ℕ) (p : ℕ → Bool) (r : Run) → Proper (r .state) → Ordered (r .state) → i ≤ base .top
+    → ((w : ℕ) → T (p w) → w < r .state .n) → (m : ℕ) → Kept (r .state) (scanUpto base words i p m r .state)
+upto-kept words i p r q o k h zero = rw (upto-none base words i p r) (kept-none (r .state) q o)
+upto-kept words i p r q o k h (suc m) =
+    let a : Kept (r .state) (scanUpto base words i p m r .state) = upto-kept words i p r q o k h m in
+    elim (holds? (p m)) [
+      | inl t ↦ rw (upto-yes base words i p m r t)
+          (kept-then a (visited-kept words i m (scanUpto base words i p m r) (a .proper) (a .ordered) (omega (arith, a .size, h m t)) k))
+      | inr t ↦ rw (upto-no base words i p m r t) a
+    ]
+
+pub scanFrom-kept : (words : List ℕ) (i v : ℕ) (r : Run) → Proper (r .state) → Ordered (r .state) → i ≤ base .top
+    → Kept (r .state) (scanFrom base words i v r .state)
+scanFrom-kept words i v r p o k =
+    rw (scanFrom-loop base words i v r) (upto-kept words i (r .state .owns v) r p o k (λ w t. p .inside v w t .1) (r .state .n))
+
+-- The two ways of a taking.
+module _ (words : List ℕ) (i v : ℕ) (r : Run) where
+  pub take-draws : base .thr i ≤ below (handOver i v (r .state)) v i → take base words i v r ≡ draw words i v (at r (handOver i v (r .state)))
+  unfolding take
+  take-draws h = rw (leb-yes (base .thr i) (below (handOver i v (r .state)) v i) h, take) refl
+
+  pub take-falls : below (handOver i v (r .state)) v i < base .thr i
+      → take base words i v r ≡ scanFrom base words i v (fall i v (at r (handOver i v (r .state))))
+  unfolding take
+  take-falls h = rw (leb-no (base .thr i) (below (handOver i v (r .state)) v i) h, take) refl
+
+pub take-kept : (words : List ℕ) (i v : ℕ) (r : Run) → Proper (r .state) → Ordered (r .state) → v < r .state .n → r .state .rank v ≡ suc i
+    → i ≤ base .top → Kept (r .state) (take base words i v r .state)
+unfolding handOver fall ranked
+take-kept words i v r p o l e k =
+    let s : State = handOver i v (r .state) in
+    let a : Kept (r .state) s = hand-kept (r .state) p o i v l e in
+    elim (le? (base .thr i) (below s v i)) [
+      | inl h ↦ rw (take-draws words i v r h)
+          (kept-then a (draw-kept words i v (at r s) (a .proper) (a .ordered) l k (omega (arith, base-pos i))))
+      | inr h ↦
+          let b : Kept s (ranked v i s) = fall-kept s (a .proper) (a .ordered) i v l e (hand-row (r .state) p i v o e) in
+          rw (take-falls words i v r h) (kept-then (kept-then a b) (scanFrom-kept words i v (fall i v (at r s)) (b .proper) (b .ordered) k))
+    ]
+
+pub take-room : (words : List ℕ) (i v : ℕ) (r : Run) → Proper (r .state) → Ordered (r .state) → v < r .state .n → r .state .rank v ≡ suc i
+    → i ≤ base .top → (take base words i v r .draws ≤ r .draws + 257) × (take base words i v r .falls ≤ suc (r .falls))
+unfolding draw drawn fall handOver
+take-room words i v r p o l e k =
+    let s : State = handOver i v (r .state) in
+    elim (le? (base .thr i) (below s v i)) [
+      | inl h ↦ rw (take-draws words i v r h) (omega arith, omega arith)
+      | inr h ↦
+          let q : Run = fall i v (at r s) in
+          let m = upto-room words i base (q .state .owns v) (q .state .n) q in
+          rw (take-falls words i v r h, scanFrom-loop base words i v q) (omega (arith, m .0, p .few), omega (arith, m .1))
+    ]
+
+pub take-same : (words : List ℕ) (i v : ℕ) (r q : Run) → Same r q → Same (take base words i v r) (take base words i v q)
+unfolding fall
+take-same words i v r q e =
+    let a : Same (at r (handOver i v (r .state))) (at q (handOver i v (q .state))) = at-same e (handOver i v) in
+    elim (le? (base .thr i) (below (handOver i v (r .state)) v i)) [
+      | inl h ↦ same-then (same-of (take-draws words i v r h)) (same-then (draw-same words i v a)
+          (same-of (sym (take-draws words i v q (subst (λ (s : State). base .thr i ≤ below (handOver i v s) v i) (e .state) h)))))
+      | inr h ↦ same-then (same-of (take-falls words i v r h)) (same-then (scanFrom-same base words i v (record {
+        state = ap (λ (s : State). fall i v (at r (handOver i v s)) .state) (e .state);
+        draws = e .draws;
+        falls = ap suc (e .falls);
+      })) (same-of (sym (take-falls words i v q (subst (λ (s : State). below (handOver i v s) v i < base .thr i) (e .state) h)))))
+    ]

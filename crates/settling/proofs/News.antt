@@ -1,0 +1,123 @@
+-- New pairs have no say in a run, and how many draws and falls a move adds. Assumes nothing.
+use mathlib.Core.Path.{_≡_, refl, sym, ap, _∙_, subst}
+use mathlib.Core.Logic.{inl, inr}
+use mathlib.Core.Bool.{Bool}
+use mathlib.Core.List.{List}
+use Prim.Native.Nat.{ℕ, zero, suc, _+_, _≤_}
+use native.Mathlib.Omega.{arith}
+use lib.Dec.{T}
+use lib.ListN.{length, getD}
+use Rattle.model.specs.Counting.{listed}
+use Rattle.model.specs.State.{Rules, State, near}
+use Rattle.model.specs.Moves.{Run, at, part, rise, marry, place, chosen, drawn, draw, promote, due, scanFrom}
+use Rattle.model.proofs.Tests.{holds?, T-true, T-false}
+use Rattle.theory.proofs.Loops.{scanStep, scanUpto, scanFrom-loop}
+use Rattle.settling.specs.Runs.{visited}
+
+-- runs that differ in their new pairs alone
+pub record Same (r q : Run) : Type 0 where
+  pub state : r .state ≡ q .state
+  pub draws : r .draws ≡ q .draws
+  pub falls : r .falls ≡ q .falls
+
+pub same-back : {r q : Run} → Same r q → Same q r
+same-back e = record { state = sym (e .state); draws = sym (e .draws); falls = sym (e .falls) }
+
+pub same-then : {r q p : Run} → Same r q → Same q p → Same r p
+same-then a b = record { state = a .state ∙ b .state; draws = a .draws ∙ b .draws; falls = a .falls ∙ b .falls }
+
+pub same-of : {r q : Run} → r ≡ q → Same r q
+same-of e = record { state = ap (λ (x : Run). x .state) e; draws = ap (λ (x : Run). x .draws) e; falls = ap (λ (x : Run). x .falls) e }
+
+-- the run on another state
+pub at-same : {r q : Run} → Same r q → (f : State → State) → Same (at r (f (r .state))) (at q (f (q .state)))
+at-same e f = record { state = ap f (e .state); draws = e .draws; falls = e .falls }
+
+module _ (words : List ℕ) (i u : ℕ) {r q : Run} (e : Same r q) where
+  pub chosen-same : chosen words i u r ≡ chosen words i u q
+  unfolding chosen
+  chosen-same = λ k. getD (listed (near (e .state k) u i) (e .state k .n))
+      (place words (e .draws k) (length (listed (near (e .state k) u i) (e .state k .n)))) 0
+
+  pub draw-same : Same (draw words i u r) (draw words i u q)
+  unfolding draw drawn
+  draw-same = record {
+    state = λ k. marry u (chosen-same k) (rise i (chosen-same k) (part (chosen-same k) (e .state k)));
+    draws = ap suc (e .draws);
+    falls = e .falls;
+  }
+
+pub promote-same : (words : List ℕ) (i u : ℕ) {r q : Run} → Same r q → Same (promote words i u r) (promote words i u q)
+unfolding promote
+promote-same words i u e = draw-same words i u (at-same e (λ s. rise i u (part u s)))
+
+-- A vertex's turn in the scan, and the turns of the vertices below m that pass p.
+module _ (R : Rules) (words : List ℕ) (i : ℕ) where
+  pub visited-yes : (w : ℕ) (r : Run) → T (due R i w (r .state)) → visited R words i w r ≡ promote words i w r
+  unfolding visited
+  visited-yes w r t = rw (T-true {b = due R i w (r .state)} t, visited) refl
+
+  pub visited-no : (w : ℕ) (r : Run) → (T (due R i w (r .state)) → ⊥) → visited R words i w r ≡ r
+  unfolding visited
+  visited-no w r t = rw (T-false {b = due R i w (r .state)} t, visited) refl
+
+  pub visited-same : (w : ℕ) {r q : Run} → Same r q → Same (visited R words i w r) (visited R words i w q)
+  visited-same w {r} {q} e = elim (holds? (due R i w (r .state))) [
+    | inl t ↦ same-then (same-of (visited-yes w r t)) (same-then (promote-same words i w e)
+        (same-of (sym (visited-yes w q (subst (λ (s : State). T (due R i w s)) (e .state) t)))))
+    | inr t ↦ same-then (same-of (visited-no w r t)) (same-then e
+        (same-of (sym (visited-no w q (λ h. t (subst (λ (s : State). T (due R i w s)) (sym (e .state)) h))))))
+  ]
+
+  module _ (p : ℕ → Bool) where
+    pub upto-none : (r : Run) → scanUpto R words i p 0 r ≡ r
+    unfolding scanUpto
+    upto-none r = refl
+
+    pub upto-yes : (m : ℕ) (r : Run) → T (p m) → scanUpto R words i p (suc m) r ≡ visited R words i m (scanUpto R words i p m r)
+    unfolding scanUpto scanStep visited
+    upto-yes m r t = rw (T-true {b = p m} t, scanUpto) refl
+
+    pub upto-no : (m : ℕ) (r : Run) → (T (p m) → ⊥) → scanUpto R words i p (suc m) r ≡ scanUpto R words i p m r
+    unfolding scanUpto
+    upto-no m r t = rw (T-false {b = p m} t, scanUpto) refl
+
+    pub upto-same : (m : ℕ) {r q : Run} → Same r q → Same (scanUpto R words i p m r) (scanUpto R words i p m q)
+    upto-same zero {r} {q} e = same-then (same-of (upto-none r)) (same-then e (same-of (sym (upto-none q))))
+    upto-same (suc m) {r} {q} e = elim (holds? (p m)) [
+      | inl t ↦ same-then (same-of (upto-yes m r t)) (same-then (visited-same m (upto-same m e)) (same-of (sym (upto-yes m q t))))
+      | inr t ↦ same-then (same-of (upto-no m r t)) (same-then (upto-same m e) (same-of (sym (upto-no m q t))))
+    ]
+
+  pub scanFrom-same : (v : ℕ) {r q : Run} → Same r q → Same (scanFrom R words i v r) (scanFrom R words i v q)
+  scanFrom-same v {r} {q} e =
+      same-then (same-of (scanFrom-loop R words i v r)) (same-then
+      (subst (λ (s : State). Same (scanUpto R words i (r .state .owns v) (r .state .n) r) (scanUpto R words i (s .owns v) (s .n) q)) (e .state)
+      (upto-same (r .state .owns v) (r .state .n) e)) (same-of (sym (scanFrom-loop R words i v q))))
+
+-- How many draws and falls: one draw more at most for each vertex visited.
+module _ (words : List ℕ) (i : ℕ) where
+  pub promote-draws : (u : ℕ) (r : Run) → promote words i u r .draws ≡ suc (r .draws)
+  unfolding promote draw drawn
+  promote-draws u r = refl
+
+  pub promote-falls : (u : ℕ) (r : Run) → promote words i u r .falls ≡ r .falls
+  unfolding promote draw drawn
+  promote-falls u r = refl
+
+  pub visited-room : (R : Rules) (w : ℕ) (r : Run) → (visited R words i w r .draws ≤ suc (r .draws)) × (visited R words i w r .falls ≡ r .falls)
+  visited-room R w r = elim (holds? (due R i w (r .state))) [
+    | inl t ↦ rw (visited-yes R words i w r t) (omega (arith, promote-draws w r), promote-falls w r)
+    | inr t ↦ rw (visited-no R words i w r t) (omega arith, refl)
+  ]
+
+  pub upto-room : (R : Rules) (p : ℕ → Bool) (m : ℕ) (r : Run)
+      → (scanUpto R words i p m r .draws ≤ r .draws + m) × (scanUpto R words i p m r .falls ≡ r .falls)
+  upto-room R p zero r = rw (upto-none R words i p r) (omega arith, refl)
+  upto-room R p (suc m) r = elim (holds? (p m)) [
+    | inl t ↦ rw (upto-yes R words i p m r t) (
+      omega (arith, upto-room R p m r .0, visited-room R m (scanUpto R words i p m r) .0),
+      visited-room R m (scanUpto R words i p m r) .1 ∙ upto-room R p m r .1,
+    )
+    | inr t ↦ rw (upto-no R words i p m r t) (omega (arith, upto-room R p m r .0), upto-room R p m r .1)
+  ]

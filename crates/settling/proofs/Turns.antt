@@ -1,0 +1,57 @@
+-- A vertex's turn in the scan on bytes: the tests of the code are the definition's, and what is left either way. Assumes nothing.
+use mathlib.Core.Path.{_≡_, refl}
+use mathlib.Core.List.{List}
+use Prim.Native.Nat.{ℕ, _≤_, _<_}
+use native.Mathlib.Omega.{arith}
+use lib.Dec.{T, leb, leb→le, le→leb}
+use Rattle.model.specs.State.{base, phi}
+use Rattle.model.specs.Bytes.{rankAt, phiAt, read}
+use Rattle.model.specs.Moves.{due, promote}
+use Rattle.model.proofs.Tests.{and-intro, and-left, and-right}
+use Rattle.moves.specs.Proper.{Held}
+use Rattle.moves.proofs.Held.{held-rank, held-phi, held-small}
+use Rattle.settling.specs.Runs.{running, Waiting, Left, visited}
+use Rattle.settling.specs.declared.Tally.{Tally}
+use Rattle.settling.proofs.News.{visited-yes, visited-no}
+
+-- there are four levels from 0 on
+pub level-small : (i : ℕ) → i ≤ base .top → i < 4
+unfolding base
+level-small i k = omega arith
+
+-- the bytes hold a state, of which w is a vertex
+pub record Visiting (bs : List ℕ) (i w : ℕ) : Type 0 where
+  pub held : Held bs
+  pub inside : w < read bs .n
+  pub level : i ≤ base .top
+
+module _ {bs : List ℕ} {i w : ℕ} (a : Visiting bs i w) where
+  turn-rank : rankAt bs w ≡ read bs .rank w
+  turn-rank = held-rank (a .held) w (held-small (a .held) w (a .inside))
+
+  turn-phi : phiAt bs w i ≡ phi (read bs) w i
+  turn-phi = held-phi (a .held) w i (held-small (a .held) w (a .inside)) (level-small i (a .level))
+
+  pub turn-high : i < rankAt bs w → T (due base i w (read bs)) → ⊥
+  unfolding due
+  turn-high h t = omega (arith, leb→le (read bs .rank w) i (and-left (leb (read bs .rank w) i) _ t), turn-rank)
+
+  pub turn-few : phiAt bs w i < base .thr i → T (due base i w (read bs)) → ⊥
+  unfolding due
+  turn-few h t = omega (arith, leb→le (base .thr i) (phi (read bs) w i) (and-right (leb (read bs .rank w) i) _ t), turn-phi)
+
+  pub turn-due : rankAt bs w ≤ i → base .thr i ≤ phiAt bs w i → T (due base i w (read bs))
+  unfolding due
+  turn-due h k =
+      and-intro (leb (read bs .rank w) i) (leb (base .thr i) (phi (read bs) w i))
+      (le→leb (read bs .rank w) i (omega (arith, turn-rank))) (le→leb (base .thr i) (phi (read bs) w i) (omega (arith, turn-phi)))
+
+  -- a vertex that is not due is passed over
+  pub turn-passed : (words : List ℕ) {row : List ℕ} (t : Tally) → Waiting row (read bs) → (T (due base i w (read bs)) → ⊥)
+      → Left (visited base words i w (running bs t)) bs row t
+  turn-passed words t c n =
+      rw (visited-no base words i w (running bs t) n) (record { rack = a .held .written; draws = refl; falls = refl; waiting = c })
+
+  pub turn-promoted : (words : List ℕ) {row d : List ℕ} (t : Tally) {r : Tally} → T (due base i w (read bs))
+      → Left (promote words i w (running bs t)) d row r → Left (visited base words i w (running bs t)) d row r
+  turn-promoted words t n c = rw (visited-yes base words i w (running bs t) n) c

@@ -1,0 +1,64 @@
+-- `settling::choose` meets its contract: the row holds exactly the vertices to choose among. Assumes nothing.
+use mathlib.Core.Path.{subst}
+use Prim.Native.Nat.{ℕ, _%_, _<_}
+use native.Mathlib.Omega.{arith}
+use native.Mathlib.Nat.{mod-lt}
+use borrow.Author.Needs.{needs}
+use Rattle.layout.specs.Rows.{NthOwned}
+use Rattle.moves.proofs.Held.{held-sized, held-small}
+use Rattle.settling.proofs.Entries.{row-degree, row-chosen}
+use Rattle.settling.proofs.choose.Statement.{statement}
+use Rattle.settling.proofs.choose.Tie as tie
+
+degree-requires : tie.Need-degree-requires
+degree-requires c κs = let p = c .before .before .pre in (held-sized (p .0), held-small (p .0) _ (p .1 .0))
+
+cast-word-at : tie.Need-cast-word-at
+cast-word-at c = search needs
+
+word-at-requires : tie.Need-word-at-requires
+word-at-requires c κs = search needs
+
+cast-nth-owned : tie.Need-cast-nth-owned
+cast-nth-owned c = search needs
+
+-- there is a vertex to choose
+some : (c : tie.After-word-at) → 0 < c .before .before .degree .result
+some c =
+    let a = c .before .before .before .before .before .args in
+    let p = c .before .before .before .before .before .pre in
+    omega (arith, c .before .before .degree .ensures, row-degree (a .rack .now) (p .0) (a .i) (a .u) (p .1 .0) (p .1 .1), p .1 .2)
+
+rem-nth-owned : tie.Need-rem-nth-owned
+rem-nth-owned c = some c
+
+nth-owned-requires : tie.Need-nth-owned-requires
+nth-owned-requires c κs =
+    let p = c .before .before .before .before .before .pre in (
+      held-sized (p .0),
+      (
+        held-small (p .0) _ (p .1 .0),
+        subst (λ (k : ℕ). c .word-at .result % c .before .before .degree .result < k) (c .before .before .degree .ensures) (mod-lt _ (some c)),
+      ),
+    )
+
+returns : tie.Need-returns
+returns c =
+    let a = c .before .before .before .before .before .before .args in
+    let p = c .before .before .before .before .before .before .pre in
+    row-chosen (a .rack .now) (p .0) (a .i) (a .u) (p .1 .0) (p .1 .1) (a .words .now) (a .tally)
+    (c .before .before .before .degree .result) (c .nth-owned .result) (c .before .before .before .degree .ensures)
+    (subst (λ (x : ℕ). NthOwned (a .rack .now) (a .u) (x % c .before .before .before .degree .result) (c .nth-owned .result))
+    (c .before .word-at .ensures) (c .nth-owned .ensures))
+
+pub choose-spec : {M : Type 1} → statement M
+choose-spec =
+    tie.close
+    (tie.spec
+    degree-requires
+    cast-word-at
+    word-at-requires
+    cast-nth-owned
+    rem-nth-owned
+    nth-owned-requires
+    returns)

@@ -1,0 +1,50 @@
+-- `settling::draw` meets its contract. Assumes nothing.
+use borrow.Author.Needs.{needs}
+use Rattle.settling.proofs.Written.{Drawing, drawing-of, lifted-marries, drawn-left}
+use Rattle.settling.proofs.draw.Statement.{statement}
+use Rattle.settling.proofs.draw.Tie as tie
+
+abbrev start : tie.After-choose → tie.Start
+start c = c .before .before .before .before .before
+
+drawing : (c : tie.After-choose) → Drawing (start c .args .rack .now) (start c .args .i) (start c .args .u) (c .choose .result)
+drawing c = let s = start c in drawing-of (s .pre .0 .0) (s .pre .0 .1) (s .pre .1 .0 .0) (s .pre .1 .0 .2) (c .choose .ensures .1)
+
+choose-requires : tie.Need-choose-requires
+choose-requires c κs = search needs
+
+lift-requires : tie.Need-lift-requires
+lift-requires c κs =
+    let a = drawing (c .before .before) .rising in
+    ((a .held, a .ordered), (a .inside, a .low, a .level, start (c .before .before) .pre .1 .1 .1 .0 .wide))
+
+marry-requires : tie.Need-marry-requires
+marry-requires c κs = let l = c .before .before .before .before .before in lifted-marries (drawing (l .before .before .before)) (l .lift .ensures .0)
+
+drew-requires : tie.Need-drew-requires
+drew-requires c κs = search needs
+
+same-length : tie.Need-same-length
+same-length c = search needs
+
+same-length-2 : tie.Need-same-length-2
+same-length-2 c = search needs
+
+returns : tie.Need-returns
+returns c =
+    let l = c .before .before .before .before .before .before .before .before .before in
+    let y = l .before .before .before in
+    drawn-left (drawing y) (l .lift .ensures .0) (start y .args .words .now) (start y .args .tally)
+    (start y .pre .1 .1 .1 .0) (y .choose .ensures .0) (l .lift .ensures .1) (c .before .before .before .marry .ensures) (c .drew .ensures)
+
+pub draw-spec : {M : Type 1} → statement M
+draw-spec =
+    tie.close
+    (tie.spec
+    choose-requires
+    lift-requires
+    marry-requires
+    drew-requires
+    same-length
+    same-length-2
+    returns)

@@ -1,0 +1,145 @@
+-- `settling::settle` meets its contract. The loop's invariant is `Going`: as many takings as are left lead from the bytes and the tally
+-- as they are now to where the settling leads. Assumes nothing.
+use mathlib.Core.Path.{_≡_, sym, ap, _∙_}
+use Prim.Native.Nat.{suc, _≤_}
+use lib.ListN.{length}
+use native.Mathlib.Omega.{arith}
+use borrow.Author.Needs.{needs}
+use Rattle.model.specs.State.{base}
+use Rattle.model.specs.Bytes.{read}
+use Rattle.model.specs.Moves.{pick, found}
+use Rattle.moves.proofs.Held.{held-sized}
+use Rattle.settling.specs.Runs.{running, foundBy}
+use Rattle.settling.proofs.SettleLoop.{
+  taking-of,
+  takings,
+  takings-few,
+  Going,
+  going-start,
+  going-room,
+  going-rest,
+  going-used,
+  going-on,
+}
+use Rattle.settling.proofs.settle.Statement.{statement}
+use Rattle.settling.proofs.settle.Tie as tie
+
+abbrev Inv-loop : tie.InvT-loop
+Inv-loop rack₀ waiting₀ words left₀ t₀ rack waiting left t = Going words (running rack₀ t₀) rack waiting left t
+
+abbrev μ-loop : tie.MeasureT-loop
+μ-loop rack₀ waiting₀ words left₀ t₀ rack waiting left t = left
+
+size-requires : tie.Need-size-requires Inv-loop μ-loop
+size-requires c κs = held-sized (c .before .before .before .before .pre .0 .0)
+
+top-requires : tie.Need-top-requires Inv-loop μ-loop
+top-requires c κs = tt
+
+add-left : tie.Need-add-left Inv-loop μ-loop
+unfolding base
+add-left c = omega (arith, c .top .ensures)
+
+mul-left : tie.Need-mul-left Inv-loop μ-loop
+mul-left c =
+    let h = c .before .before .before .before .before .before .pre .0 .0 in
+    omega (arith, takings-few h _ _ (c .before .size .ensures) (c .top .ensures))
+
+loop-holds : tie.Need-loop-holds Inv-loop μ-loop
+loop-holds c =
+    let p = c .before .before .before .before .before .before .pre in
+    going-start _ _ _ _ _ (p .0 .0) (p .0 .1) (p .1 .0) (p .1 .1) (takings (p .0 .0) _ _ (c .before .size .ensures) (c .top .ensures))
+
+pick-requires : tie.Need-pick-requires Inv-loop μ-loop
+pick-requires c κs = let g = c .before .before .before .loop .inv in (g .held, g .waiting)
+
+enum-known-i : tie.Need-enum-known-i Inv-loop μ-loop
+enum-known-i c = search needs
+
+enum-told : tie.Need-enum-told Inv-loop μ-loop
+enum-told c = search needs
+
+-- a rack that is held has one length, and so has the row
+rack-length : (c : tie.At-loop Inv-loop μ-loop) →
+    let a = c .before .before .before .before .before .before .before .args in
+    length (c .loop .rack) ≡ length (a .rack .now)
+rack-length c = held-sized (c .loop .inv .held) ∙ sym (held-sized (c .before .before .before .before .before .before .before .pre .0 .0))
+
+row-length : (c : tie.At-loop Inv-loop μ-loop) →
+    let a = c .before .before .before .before .before .before .before .args in
+    length (c .loop .waiting) ≡ length (a .waiting .now)
+row-length c = c .loop .inv .waiting .wide ∙ sym (c .before .before .before .before .before .before .before .pre .1 .0 .wide)
+
+same-length : tie.Need-same-length Inv-loop μ-loop
+same-length c = rack-length (c .before .before .before .before .before .before)
+
+same-length-2 : tie.Need-same-length-2 Inv-loop μ-loop
+same-length-2 c = row-length (c .before .before .before .before .before .before)
+
+returns : tie.Need-returns Inv-loop μ-loop
+returns c =
+    going-rest (c .before .before .before .before .before .before .loop .inv)
+    (sym (c .before .before .pick .ensures) ∙ ap foundBy (c .enum-told .given .1))
+
+-- what was picked is the pick of the state
+picked : (c : tie.After-i Inv-loop μ-loop) →
+    let r = c .before .before .before .before .before .before .loop .rack in
+    pick (suc (base .top)) (read r) ≡ found (c .i .given .0 .0) (c .i .given .0 .1 .0)
+picked c = sym (c .before .before .pick .ensures) ∙ ap foundBy (c .i .given .1)
+
+take-requires : tie.Need-take-requires Inv-loop μ-loop
+take-requires c κs =
+    let d = c .before .before .before in
+    let g = d .before .before .before .before .before .before .loop .inv in
+    let a = taking-of _ _ _ (g .held .proper) (picked d) in
+    ((g .held, g .ordered), ((a .inside, a .free, a .rank, a .level), (g .waiting, going-room g)))
+
+-- a taking was left
+some-left : (c : tie.After-i Inv-loop μ-loop) → 1 ≤ c .before .before .before .before .before .before .loop .left
+some-left c = c .before .before .before .before .before .loop-test .taken
+
+sub-left : tie.Need-sub-left Inv-loop μ-loop
+sub-left c = some-left (c .before .before .before .before .before .before .before .before)
+
+loop-less : tie.Need-loop-less Inv-loop μ-loop
+loop-less c = omega (arith, some-left (c .before .before .before .before .before .before .before .before))
+
+loop-again : tie.Need-loop-again Inv-loop μ-loop
+loop-again c =
+    let d = c .before .before .before .before .before .before .before .before in
+    going-on (d .before .before .before .before .before .before .loop .inv) (picked d) _ (omega (arith, some-left d))
+    (c .before .before .before .before .take .ensures)
+
+same-length-3 : tie.Need-same-length-3 Inv-loop μ-loop
+same-length-3 c = rack-length (c .before)
+
+same-length-4 : tie.Need-same-length-4 Inv-loop μ-loop
+same-length-4 c = row-length (c .before)
+
+returns-2 : tie.Need-returns-2 Inv-loop μ-loop
+returns-2 c = going-used (c .before .loop .inv) (omega arith)
+
+pub settle-spec : {M : Type 1} → statement M
+settle-spec =
+    tie.close
+    (tie.spec
+    Inv-loop
+    μ-loop
+    size-requires
+    top-requires
+    add-left
+    mul-left
+    loop-holds
+    pick-requires
+    enum-known-i
+    enum-told
+    same-length
+    same-length-2
+    returns
+    take-requires
+    sub-left
+    loop-less
+    loop-again
+    same-length-3
+    same-length-4
+    returns-2)

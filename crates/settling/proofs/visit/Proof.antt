@@ -1,0 +1,92 @@
+-- `settling::visit` meets its contract. Assumes nothing.
+use native.Mathlib.Omega.{arith}
+use lib.Dec.{T}
+use borrow.Author.Needs.{needs}
+use Rattle.model.specs.State.{base}
+use Rattle.model.specs.Bytes.{read}
+use Rattle.model.specs.Moves.{due}
+use Rattle.moves.proofs.Held.{held-sized, held-small}
+use Rattle.settling.proofs.Steps.{due-low}
+use Rattle.settling.proofs.Turns.{level-small, Visiting, turn-high, turn-few, turn-due, turn-passed, turn-promoted}
+use Rattle.settling.proofs.visit.Statement.{statement}
+use Rattle.settling.proofs.visit.Tie as tie
+
+visiting : (c : tie.Start) → Visiting (c .args .rack .now) (c .args .i) (c .args .w)
+visiting c = record { held = c .pre .0 .0; inside = c .pre .1 .0 .0; level = c .pre .1 .0 .1 }
+
+rank-requires : tie.Need-rank-requires
+rank-requires c κs = let a = visiting (c .before .before .before .before) in (held-sized (a .held), held-small (a .held) _ (a .inside))
+
+cast-if1 : tie.Need-cast-if1
+cast-if1 c = search needs
+
+same-length : tie.Need-same-length
+same-length c = search needs
+
+returns : tie.Need-returns
+returns c =
+    let s = c .before .before .before .before .before .before in
+    turn-passed (visiting s) (s .args .words .now) (s .args .tally) (s .pre .1 .1 .0) (turn-high (visiting s) (omega (arith, c .before .rank .ensures)))
+
+phi-requires : tie.Need-phi-requires
+phi-requires c κs =
+    let a = visiting (c .before .before .before .before .before .before .before) in
+    (held-sized (a .held), (held-small (a .held) _ (a .inside), level-small _ (a .level)))
+
+threshold-requires : tie.Need-threshold-requires
+threshold-requires c κs = search needs
+
+same-length-2 : tie.Need-same-length-2
+same-length-2 c = search needs
+
+returns-2 : tie.Need-returns-2
+returns-2 c =
+    let s = c .before .before .before .before .before .before .before .before .before .before in
+    turn-passed (visiting s) (s .args .words .now) (s .args .tally) (s .pre .1 .1 .0)
+    (turn-few (visiting s) (omega (arith, c .before .threshold .ensures, c .before .before .phi .ensures)))
+
+-- both tests failed, so w is due
+abbrev start : tie.Else2 → tie.Start
+start c = c .before .before .before .before .before .before .before .before .before .before
+
+is-due : (c : tie.Else2) → T (due base (start c .args .i) (start c .args .w) (read (start c .args .rack .now)))
+is-due c =
+    turn-due (visiting (start c))
+    (omega (arith, c .before .before .before .before .before .rank .ensures, c .before .before .before .before .if1 .left))
+    (omega (arith, c .before .threshold .ensures, c .before .before .phi .ensures, c .if2 .left))
+
+promote-requires : tie.Need-promote-requires
+promote-requires c κs =
+    let s = start (c .before .before) in
+    let d = due-low (s .args .i) (s .args .w) (read (s .args .rack .now)) (is-due (c .before .before)) in
+    (s .pre .0, ((s .pre .1 .0 .0, d .0, s .pre .1 .0 .1, d .1), s .pre .1 .1))
+
+same-length-3 : tie.Need-same-length-3
+same-length-3 c = search needs
+
+same-length-4 : tie.Need-same-length-4
+same-length-4 c = search needs
+
+returns-3 : tie.Need-returns-3
+returns-3 c =
+    let p = c .before .before .before .before in
+    let e = p .before .before .before in
+    let s = start e in
+    turn-promoted (visiting s) (s .args .words .now) (s .args .tally) (is-due e) (p .promote .ensures)
+
+pub visit-spec : {M : Type 1} → statement M
+visit-spec =
+    tie.close
+    (tie.spec
+    rank-requires
+    cast-if1
+    same-length
+    returns
+    phi-requires
+    threshold-requires
+    same-length-2
+    returns-2
+    promote-requires
+    same-length-3
+    same-length-4
+    returns-3)

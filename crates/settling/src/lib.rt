@@ -1,0 +1,251 @@
+// Runs of moves on the rack's bytes: a draw, a promotion, the scan after a fall, a taking, and the settling. A row of bits beside the rack
+// holds every vertex that may be pending, so that the next one is found without going through all vertices.
+ghost use mathlib.Core.Path.{_≡_};
+ghost use Prim.Native.Nat.{suc, _<_, _≤_};
+ghost use lib.Dec.{T};
+ghost use lib.ListN.{length, getD};
+ghost use Rattle.model.specs.State.{base, near, below};
+ghost use Rattle.model.specs.Bytes.{read, write};
+ghost use Rattle.model.specs.Moves.{part as parted, rise as risen, chosen, draw as drawn, promote as promoted, scanFrom, take as taken, pick as picked, settle as settled};
+ghost use Rattle.moves.specs.Proper.{Ordered, Held, RowBelow};
+ghost use Rattle.settling.specs.Runs.{running, WaitingBut, Waiting, noted, Room, Left, visited, foundBy};
+
+// "A change answers 0, its draws, its falls": both figures, handed on from move to move.
+pub struct Tally {
+    pub draws: u32,
+    pub falls: u32,
+}
+
+impl Tally {
+    pub fn new() -> Self
+        ensures { λ r. ⌜ (r .draws ≡ 0) × (r .falls ≡ 0) ⌝ }
+    {
+        Tally { draws: 0, falls: 0 }
+    }
+
+    // One more draw.
+    pub fn drew(self) -> Self
+        requires { ⌜ self .draws ≤ 1000000 ⌝ }
+        ensures { λ r. ⌜ (r .draws ≡ suc (self .draws)) × (r .falls ≡ self .falls) ⌝ }
+    {
+        Tally {
+            draws: self.draws + 1,
+            falls: self.falls,
+        }
+    }
+
+    // One more fall.
+    pub fn fell(self) -> Self
+        requires { ⌜ self .falls ≤ 1000000 ⌝ }
+        ensures { λ r. ⌜ (r .draws ≡ self .draws) × (r .falls ≡ suc (self .falls)) ⌝ }
+    {
+        Tally {
+            draws: self.draws,
+            falls: self.falls + 1,
+        }
+    }
+}
+
+// The next vertex to be taken, with its level, or that none is pending.
+pub enum Choice {
+    At(usize, usize),
+    Nothing,
+}
+
+// The word with number k; past the lent words 0, which no change comes to.
+fn word_at(words: &[u32], k: usize) -> u32
+    ensures { λ r. ⌜ r ≡ getD (now (words .entry)) k 0 ⌝ }
+{
+    if k < words.len() {
+        return words[k];
+    }
+    0
+}
+
+// v's mate, if it has one, may be pending from now on.
+pub fn note_mate(rack: &[u8], waiting: &mut [u8], v: usize)
+    requires { ⌜ Held (now rack) ⌝ }
+    requires { ⌜ (v < read (now rack) .n) × (length (now waiting) ≡ 32) ⌝ }
+    ensures { λ _. ⌜ now (waiting .exit) ≡ noted (read (now (rack .entry))) (now (waiting .entry)) v ⌝ }
+{
+    let m = layout::mate(rack, v);
+    if m == 65535 {
+        return;
+    }
+    bitset::insert(waiting, m as usize);
+}
+
+// The vertex that the next word draws: u's row holds its neighbours below level i, and trailing zeros lead to the place in it.
+fn choose(rack: &[u8], words: &[u32], u: usize, i: usize, tally: Tally) -> usize
+    requires { ⌜ Held (now rack) ⌝ }
+    requires { ⌜ (u < read (now rack) .n) × (RowBelow i u (read (now rack))) × (1 ≤ below (read (now rack)) u i) ⌝ }
+    ensures { λ r. ⌜ (r ≡ chosen (now (words .entry)) i u (running (now (rack .entry)) tally)) × (T (near (read (now (rack .entry))) u i r)) ⌝ }
+{
+    let k = layout::degree(rack, u);
+    let word = word_at(words, tally.draws as usize);
+    layout::nth_owned(rack, u, word as usize % k)
+}
+
+// v loses its mate if it has one, which may be pending from now on, and rises to i.
+fn lift(rack: &mut [u8], waiting: &mut [u8], v: usize, i: usize)
+    requires { ⌜ (Held (now rack)) × (Ordered (read (now rack))) ⌝ }
+    requires { ⌜ (v < read (now rack) .n) × (read (now rack) .rank v ≤ i) × (i ≤ base .top) × (length (now waiting) ≡ 32) ⌝ }
+    ensures { λ _. ⌜ now (rack .exit) ≡ write (risen i v (parted v (read (now (rack .entry))))) ⌝ }
+    ensures { λ _. ⌜ now (waiting .exit) ≡ noted (read (now (rack .entry))) (now (waiting .entry)) v ⌝ }
+{
+    note_mate(rack, waiting, v);
+    moves::part(rack, v);
+    moves::rise(rack, v, i);
+}
+
+// "Draw at u, level i", once u's row holds exactly its neighbours below i.
+pub fn draw(
+    rack: &mut [u8],
+    waiting: &mut [u8],
+    words: &[u32],
+    u: usize,
+    i: usize,
+    tally: Tally,
+) -> Tally
+    requires { ⌜ (Held (now rack)) × (Ordered (read (now rack))) ⌝ }
+    requires { ⌜ (u < read (now rack) .n) × (read (now rack) .rank u ≡ suc i) × (i ≤ base .top) ⌝ }
+    requires { ⌜ (RowBelow i u (read (now rack))) × (1 ≤ below (read (now rack)) u i) ⌝ }
+    requires { ⌜ (WaitingBut u (now waiting) (read (now rack))) × (tally .draws ≤ 1000000) ⌝ }
+    ensures { λ r. ⌜ Left (drawn (now (words .entry)) i u (running (now (rack .entry)) tally)) (now (rack .exit)) (now (waiting .exit)) r ⌝ }
+{
+    let y = choose(rack, words, u, i, tally);
+    lift(rack, waiting, y, i);
+    moves::marry(rack, u, y);
+    tally.drew()
+}
+
+// "loses its mate if it has one, rises to i and draws"
+pub fn promote(
+    rack: &mut [u8],
+    waiting: &mut [u8],
+    words: &[u32],
+    u: usize,
+    i: usize,
+    tally: Tally,
+) -> Tally
+    requires { ⌜ (Held (now rack)) × (Ordered (read (now rack))) ⌝ }
+    requires { ⌜ (u < read (now rack) .n) × (read (now rack) .rank u ≤ i) × (i ≤ base .top) × (1 ≤ below (read (now rack)) u i) ⌝ }
+    requires { ⌜ (Waiting (now waiting) (read (now rack))) × (tally .draws ≤ 1000000) ⌝ }
+    ensures { λ r. ⌜ Left (promoted (now (words .entry)) i u (running (now (rack .entry)) tally)) (now (rack .exit)) (now (waiting .exit)) r ⌝ }
+{
+    lift(rack, waiting, u, i);
+    draw(rack, waiting, words, u, i, tally)
+}
+
+// A vertex's turn in the scan: "each one that is below i with a count at i of at least 4^i" is promoted.
+fn visit(
+    rack: &mut [u8],
+    waiting: &mut [u8],
+    words: &[u32],
+    w: usize,
+    i: usize,
+    tally: Tally,
+) -> Tally
+    requires { ⌜ (Held (now rack)) × (Ordered (read (now rack))) ⌝ }
+    requires { ⌜ (w < read (now rack) .n) × (i ≤ base .top) ⌝ }
+    requires { ⌜ (Waiting (now waiting) (read (now rack))) × (tally .draws ≤ 1000000) ⌝ }
+    ensures { λ r. ⌜ Left (visited base (now (words .entry)) i w (running (now (rack .entry)) tally)) (now (rack .exit)) (now (waiting .exit)) r ⌝ }
+{
+    if i < layout::rank(rack, w) as usize {
+        return tally;
+    }
+    if layout::phi(rack, w, i) < layout::threshold(i) {
+        return tally;
+    }
+    promote(rack, waiting, words, w, i, tally)
+}
+
+// "Then the boards to which v owned links just after the fall are gone through by rising number": the row is walked as it is now, since
+// a vertex that has left it meanwhile stands at level i and would be passed over.
+fn scan(
+    rack: &mut [u8],
+    waiting: &mut [u8],
+    words: &[u32],
+    v: usize,
+    i: usize,
+    tally: Tally,
+) -> Tally
+    requires { ⌜ (Held (now rack)) × (Ordered (read (now rack))) ⌝ }
+    requires { ⌜ (v < read (now rack) .n) × (i ≤ base .top) × (RowBelow i v (read (now rack))) ⌝ }
+    requires { ⌜ (Waiting (now waiting) (read (now rack))) × (tally .draws ≤ 900000) ⌝ }
+    ensures { λ r. ⌜ Left (scanFrom base (now (words .entry)) i v (running (now (rack .entry)) tally)) (now (rack .exit)) (now (waiting .exit)) r ⌝ }
+{
+    let n = layout::size(rack);
+    let mut t = tally;
+    let mut w = layout::next_owned(rack, v, 0);
+    while w < n {
+        t = visit(rack, waiting, words, w, i, t);
+        w = layout::next_owned(rack, v, w + 1);
+    }
+    t
+}
+
+// "Taking a waiting v at level i"
+fn take(
+    rack: &mut [u8],
+    waiting: &mut [u8],
+    words: &[u32],
+    v: usize,
+    i: usize,
+    tally: Tally,
+) -> Tally
+    requires { ⌜ (Held (now rack)) × (Ordered (read (now rack))) ⌝ }
+    requires { ⌜ (v < read (now rack) .n) × (read (now rack) .mate v ≡ v) × (read (now rack) .rank v ≡ suc i) × (i ≤ base .top) ⌝ }
+    requires { ⌜ (Waiting (now waiting) (read (now rack))) × (Room 900000 900000 tally) ⌝ }
+    ensures { λ r. ⌜ Left (taken base (now (words .entry)) i v (running (now (rack .entry)) tally)) (now (rack .exit)) (now (waiting .exit)) r ⌝ }
+{
+    moves::hand_over(rack, v, i);
+    if layout::threshold(i) as usize <= layout::degree(rack, v) {
+        return draw(rack, waiting, words, v, i, tally);
+    }
+    moves::fall(rack, v, i);
+    scan(rack, waiting, words, v, i, tally.fell())
+}
+
+// "take one of the highest level, lowest number first": one pass over the vertices that may be pending.
+fn pick(rack: &[u8], waiting: &[u8]) -> Choice
+    requires { ⌜ (Held (now rack)) × (Waiting (now waiting) (read (now rack))) ⌝ }
+    ensures { λ r. ⌜ foundBy r ≡ picked (suc (base .top)) (read (now (rack .entry))) ⌝ }
+{
+    let n = layout::size(rack);
+    let mut best = 0;
+    let mut at = 0;
+    let mut v = bitset::next(waiting, 0);
+    while v < n {
+        let r = layout::rank(rack, v);
+        if best < r {
+            if layout::mate(rack, v) == 65535 {
+                best = r;
+                at = v;
+            }
+        }
+        v = bitset::next(waiting, v + 1);
+    }
+    if best == 0 {
+        return Choice::Nothing;
+    }
+    Choice::At((best - 1) as usize, at)
+}
+
+// "The settling: while any board waits, take one": never more takings than n times the number of levels from 0 on.
+pub fn settle(rack: &mut [u8], waiting: &mut [u8], words: &[u32], tally: Tally) -> Tally
+    requires { ⌜ (Held (now rack)) × (Ordered (read (now rack))) ⌝ }
+    requires { ⌜ (Waiting (now waiting) (read (now rack))) × (Room 1 0 tally) ⌝ }
+    ensures { λ r. ⌜ Left (settled base (now (words .entry)) (running (now (rack .entry)) tally)) (now (rack .exit)) (now (waiting .exit)) r ⌝ }
+{
+    let mut left = layout::size(rack) * (layout::top() + 1);
+    let mut t = tally;
+    while 0 < left {
+        let Choice::At(i, v) = pick(rack, waiting) else {
+            return t;
+        };
+        t = take(rack, waiting, words, v, i, t);
+        left -= 1;
+    }
+    t
+}
