@@ -1,0 +1,97 @@
+-- The bytes on the way from a state to one with other owners: first the owners, then the counts of one end and of the other, and last the
+-- number of edges. Assumes nothing.
+use mathlib.Core.Path.{_≡_, refl, sym, ap, _∙_}
+use mathlib.Core.Logic.{_≢_}
+use mathlib.Core.Bool.{Bool, true, false}
+use Prim.Native.Nat.{ℕ, _<_}
+use lib.Dec.{eqb}
+use Rattle.model.specs.State.{State, phi, edges}
+use Rattle.model.specs.Bytes.{noMate, edgesAt, rankAt, phiAt, Fields, image, mateEntry, fieldsOf, write}
+use Rattle.model.proofs.Fields.{image-length, edges-image, rank-image, phi-image}
+use Rattle.layout.specs.Setters.{Sized, setEdges, own, disown}
+use Rattle.layout.proofs.Images.{image-ext, withEdges, withOwns, setEdges-image, own-image, disown-image}
+use Rattle.moves.specs.Counts.{withCounts}
+use Rattle.moves.proofs.Owning.{ownersOf}
+use Rattle.edges.proofs.Raised.{entry-is}
+use Rattle.edges.proofs.Shifted.{both, both-held, half}
+
+-- g is the owners of s, but for the bit y
+owners-ext : (s : State) (o e : ℕ) (y : Bool) (g : ℕ → ℕ → Bool) → g o e ≡ y → ((v w : ℕ) → (v ≡ o → w ≢ e) → g v w ≡ s .owns v w)
+    → image (withOwns (fieldsOf s) o e y) ≡ image (ownersOf s g)
+unfolding withOwns ownersOf fieldsOf
+owners-ext s o e y g on off =
+    image-ext (withOwns (fieldsOf s) o e y) (ownersOf s g) (record {
+      n = refl;
+      edges = refl;
+      rank = λ v l. refl;
+      mate = λ v l. refl;
+      phi = λ v x l k. refl;
+      owns = λ v w l k. sym (entry-is (s .owns) g o e y v w on (off v w));
+    })
+
+-- the stages from s to t
+unfoldable pub turned : State → State → Fields
+turned s t = ownersOf s (t .owns)
+
+unfoldable pub halfway : ℕ → State → State → Fields
+halfway a s t = withCounts (turned s t) (half a s t)
+
+unfoldable pub counted : State → State → Fields
+counted s t = withCounts (turned s t) (both s t)
+
+-- the owner's bit, set or cleared
+module _ (s t : State) (o e : ℕ) (x : o < 256) (y : e < 256) (off : (v w : ℕ) → (v ≡ o → w ≢ e) → t .owns v w ≡ s .owns v w) where
+  pub own-turned : t .owns o e ≡ true → own (write s) o e ≡ image (turned s t)
+  unfolding write fieldsOf turned
+  own-turned on = own-image (fieldsOf s) o e x y ∙ owners-ext s o e true (t .owns) on off
+
+  pub disown-turned : t .owns o e ≡ false → disown (write s) o e ≡ image (turned s t)
+  unfolding write fieldsOf turned
+  disown-turned on = disown-image (fieldsOf s) o e x y ∙ owners-ext s o e false (t .owns) on off
+
+-- what the stages hold
+module _ (s t : State) where
+  pub turned-sized : Sized (image (turned s t))
+  turned-sized = image-length (turned s t)
+
+  pub turned-rank : (v : ℕ) → v < 256 → rankAt (image (turned s t)) v ≡ s .rank v
+  unfolding turned ownersOf
+  turned-rank v l = rank-image (turned s t) v l
+
+  pub turned-phi : (v x : ℕ) → v < 256 → x < 4 → phiAt (image (turned s t)) v x ≡ phi s v x
+  unfolding turned ownersOf
+  turned-phi v x l k = phi-image (turned s t) v x l k
+
+  pub halfway-sized : (a : ℕ) → Sized (image (halfway a s t))
+  halfway-sized a = image-length (halfway a s t)
+
+  pub halfway-phi : (a v x : ℕ) → v < 256 → x < 4 → phiAt (image (halfway a s t)) v x ≡ half a s t v x
+  unfolding halfway withCounts
+  halfway-phi a v x l k = phi-image (halfway a s t) v x l k
+
+  pub counted-sized : Sized (image (counted s t))
+  counted-sized = image-length (counted s t)
+
+  pub counted-edges : edgesAt (image (counted s t)) ≡ edges s
+  unfolding counted withCounts turned ownersOf
+  counted-edges = edges-image (counted s t)
+
+-- vertices with the same mate have the same entry for it
+entry-same : (s t : State) (v : ℕ) → t .mate v ≡ s .mate v → mateEntry s v ≡ mateEntry t v
+unfolding mateEntry
+entry-same s t v e = ap (λ (m : ℕ). elim (eqb m v) [ true ↦ noMate | false ↦ m ]) (sym e)
+
+-- with the number of edges the bytes are those of t, where t differs in its owners alone
+pub edges-written : (s t : State) → t .n ≡ s .n → ((v : ℕ) → t .rank v ≡ s .rank v) → ((v : ℕ) → t .mate v ≡ s .mate v)
+    → setEdges (image (counted s t)) (edges t) ≡ write t
+unfolding counted withCounts turned ownersOf fieldsOf write withEdges
+edges-written s t e f g =
+    setEdges-image (counted s t) (edges t)
+    ∙ image-ext (withEdges (counted s t) (edges t)) (fieldsOf t) (record {
+      n = sym e;
+      edges = refl;
+      rank = λ v l. sym (f v);
+      mate = λ v l. entry-same s t v (g v);
+      phi = λ v x l k. both-held s t v x k;
+      owns = λ v w l k. refl;
+    })

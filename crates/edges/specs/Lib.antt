@@ -1,0 +1,2 @@
+-- The definitions that the contracts of `edges` cite.
+pub mod Steps
