@@ -20,7 +20,7 @@ use Rattle.settling.proofs.Kept.{Kept, Same, take-kept, take-room, take
 same-trans : {r q p : Run} → Same r q → Same q p → Same r p
 same-trans a b = record { state = a .state ∙ b .state; draws = a .draws ∙ b .draws; falls = a .falls ∙ b .falls }
 
-settle-same : (words : List ℕ) (f : ℕ) (r q : Run) → Same r q → Same (settleIn base words f r) (settleIn base words f q)
+pub settle-same : (words : List ℕ) (f : ℕ) (r q : Run) → Same r q → Same (settleIn base words f r) (settleIn base words f q)
 unfolding settleIn
 settle-same words zero r q s = s
 settle-same words (suc f) r q s = go (settle-same words f) (pick (suc (base .top)) (r .state)) refl

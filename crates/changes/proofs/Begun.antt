@@ -1,0 +1,122 @@
+-- Where a change begins: a valid state with one edge more or less. Nothing is pending there, owners stand in order, and the search for a
+-- rise finds a vertex that can be promoted. Assumes nothing.
+use mathlib.Core.Path.{_≡_, refl, sym, ap, _∙_, subst}
+use mathlib.Core.Logic.{_≢_, _⊎_, inl, inr}
+use mathlib.Core.Bool.{Bool, true, false, not, _&&_, _||_}
+use Prim.Native.Nat.{ℕ, zero, suc, _≤_, _<_}
+use native.Mathlib.Omega.{arith}
+use lib.Dec.{T, leb, eqb, leb→le, eqb→eq}
+use Rattle.model.specs.Counting.{upd}
+use Rattle.model.specs.State.{Rules, base, State, edge, below, phi, free, pending}
+use Rattle.model.specs.Valid.{Valid}
+use Rattle.model.specs.Moves.{Found, none, found, part}
+use Rattle.model.specs.Change.{isEdge, withoutEdge, reown, owning, addEdge, reaches, riser}
+use Rattle.model.proofs.Tests.{eq?, le?, and-left, and-right, or-cases}
+use Rattle.model.proofs.Lists.{upd-same, upd-other}
+use Rattle.model.proofs.Limits.{phi-below}
+use Rattle.theory.proofs.Takings.{pending-is}
+use Rattle.theory.proofs.Matching.{base-pos}
+use Rattle.theory.proofs.Loops.{riser-stop, riser-a, riser-b, riser-next}
+use Rattle.moves.specs.Proper.{Ordered}
+use Rattle.edges.proofs.Changed.{add-high, add-low, add-rank, add-mate}
+
+-- nothing is pending where every free vertex has rank 0
+pub still : (s : State) → ((v : ℕ) → s .mate v ≡ v → s .rank v ≡ 0) → (v i : ℕ) → T (pending s i v) → ⊥
+still s f v i t = let k = pending-is s i v t in omega (arith, f v (k .0), k .1)
+
+-- an edge more changes neither ranks nor mates
+pub add-still : (s : State) → Valid base s → (a b v i : ℕ) → T (pending (addEdge a b s) i v) → ⊥
+add-still s ok a b = still (addEdge a b s) (λ v e. add-rank a b s v ∙ ok .free-low v (sym (add-mate a b s v) ∙ e))
+
+-- owners stay in order
+owning-ordered : (s : State) (o e : ℕ) → Ordered s → s .rank e ≤ s .rank o → Ordered (owning o e s)
+unfolding owning reown
+owning-ordered s o e f l v w t = elim (or-cases (s .owns v w) (eqb v o && eqb w e) t) [
+  | inl h ↦ f v w h
+  | inr h ↦ omega (
+    arith,
+    ap (s .rank) (eqb→eq v o (and-left (eqb v o) (eqb w e) h)),
+    ap (s .rank) (eqb→eq w e (and-right (eqb v o) (eqb w e) h)),
+  )
+]
+
+pub add-ordered : (s : State) (a b : ℕ) → Ordered s → Ordered (addEdge a b s)
+add-ordered s a b f = elim (le? (s .rank b) (s .rank a)) [
+  | inl h ↦ subst Ordered (sym (add-high a b s h)) (owning-ordered s a b f h)
+  | inr h ↦ subst Ordered (sym (add-low a b s h)) (owning-ordered s b a f (omega arith))
+]
+
+pub drop-ordered : (s : State) (a b : ℕ) → Ordered s → Ordered (reown s (withoutEdge (s .owns) a b))
+unfolding reown withoutEdge
+drop-ordered s a b f v w t = f v w (and-left (s .owns v w) (not (isEdge a b v w)) t)
+
+-- The search for a rise: what it finds can be promoted.
+pub record Riser (a b i u : ℕ) (s : State) : Type 0 where
+  pub end : (u ≡ a) ⊎ (u ≡ b)
+  pub low : s .rank u ≤ i
+  pub level : i ≤ base .top
+  pub some : 1 ≤ below s u i
+
+-- a threshold that is reached says that there is a neighbour below
+reached : (s : State) (u i : ℕ) → base .thr i ≤ phi s u i → 1 ≤ below s u i
+reached s u i h = omega (arith, base-pos i, phi-below s u i)
+
+found-level : {i j u v : ℕ} → found i u ≡ found j v → i ≡ j
+found-level {i} {j} {u} {v} e = cc
+
+found-vertex : {i j u v : ℕ} → found i u ≡ found j v → u ≡ v
+found-vertex {i} {j} {u} {v} e = cc
+
+-- the search that stopped at level j with vertex x
+stopped : (a b j x : ℕ) (s : State) (i u : ℕ) → suc j ≤ suc (base .top) → (x ≡ a) ⊎ (x ≡ b) → s .rank x ≤ j → base .thr j ≤ phi s x j
+    → found j x ≡ found i u → Riser a b i u s
+stopped a b j x s i u l c k h e =
+    let p : j ≡ i = found-level e in
+    let q : x ≡ u = found-vertex e in
+    record {
+      end = elim c [ inl z ↦ inl (sym q ∙ z) | inr z ↦ inr (sym q ∙ z) ];
+      low = omega (arith, ap (s .rank) q);
+      level = omega arith;
+      some = reached s u i (subst (λ (y : ℕ). base .thr i ≤ phi s y i) q (subst (λ (y : ℕ). base .thr y ≤ phi s x y) p h));
+    }
+
+nowhere : (i u : ℕ) → none ≡ found i u → ⊥
+nowhere i u e = let z : _≡_ {A = ℕ} 0 1 = cc in omega arith
+
+pub riser-of : (a b m : ℕ) (s : State) (i u : ℕ) → m ≤ suc (base .top) → riser base a b m s ≡ found i u → Riser a b i u s
+riser-of a b zero s i u l e = absurd (nowhere i u (sym riser-zero ∙ e))
+  where
+    riser-zero : riser base a b zero s ≡ none
+    riser-zero = unfold riser in refl
+riser-of a b (suc j) s i u l e = elim (le? (s .rank a) j) [
+  | inr k ↦ absurd (nowhere i u (sym (riser-stop base a b j s (inl k)) ∙ e))
+  | inl ka ↦ elim (le? (s .rank b) j) [
+    | inr k ↦ absurd (nowhere i u (sym (riser-stop base a b j s (inr k)) ∙ e))
+    | inl kb ↦ elim (le? (base .thr j) (phi s a j)) [
+      | inl ha ↦ stopped a b j a s i u l (inl refl) ka ha (sym (riser-a base a b j s ka kb ha) ∙ e)
+      | inr ha ↦ elim (le? (base .thr j) (phi s b j)) [
+        | inl hb ↦ stopped a b j b s i u l (inr refl) kb hb (sym (riser-b base a b j s ka kb ha hb) ∙ e)
+        | inr hb ↦ riser-of a b j s i u (omega arith) (sym (riser-next base a b j s ka kb ha hb) ∙ e)
+      ]
+    ]
+  ]
+]
+
+-- After a parting, the two that were mates are all that can be pending.
+pub parted-pending : (s : State) → ((v : ℕ) → s .mate v ≡ v → s .rank v ≡ 0) → (a v i : ℕ) → T (pending (part a s) i v)
+    → (v ≡ a) ⊎ (v ≡ s .mate a)
+parted-pending s f a v i t = elim (eq? v a) [
+  | inl e ↦ inl e
+  | inr d ↦ elim (eq? v (s .mate a)) [
+    | inl e ↦ inr e
+    | inr c ↦
+        let k = pending-is (part a s) i v t in
+        let m : part a s .mate v ≡ s .mate v = kept d c in
+        let r : part a s .rank v ≡ s .rank v = unfold part in refl in
+        absurd (omega (arith, f v (sym m ∙ k .0), k .1, r))
+  ]
+]
+  where
+    kept : v ≢ a → v ≢ s .mate a → part a s .mate v ≡ s .mate v
+    kept d c = unfold part in
+        upd-other (upd (s .mate) (s .mate a) (s .mate a)) a a v d ∙ upd-other (s .mate) (s .mate a) (s .mate a) v c

@@ -1,0 +1,6 @@
+-- What the proofs of the changes lean on.
+pub mod Begun
+pub mod Numbers
+pub mod Chains
+pub mod Wholes
+pub mod Answered

@@ -1,0 +1,2 @@
+-- The definitions that the contracts of `changes` cite.
+pub mod Sounded

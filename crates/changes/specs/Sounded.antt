@@ -1,0 +1,72 @@
+-- A change of a sound rack: how it is brought, the numbers of its parts, and what it answers and leaves. Assumes nothing.
+use mathlib.Core.Path.{_≡_}
+use mathlib.Core.Logic.{_≢_}
+use mathlib.Core.Bool.{true, false, _&&_}
+use mathlib.Core.List.{List}
+use Prim.Native.Nat.{ℕ, _/_, _≤_, _<_}
+use lib.Dec.{T, eqb, ltb}
+use lib.ListN.{length}
+use Rattle.model.specs.State.{base, State, edge, below, pending}
+use Rattle.model.specs.Bytes.{read, write}
+use Rattle.model.specs.Valid.{Valid}
+use Rattle.model.specs.Moves.{Run}
+use Rattle.model.specs.Change.{Change, Answer as AnswerOf, lower, upper, add, drop}
+use Rattle.moves.specs.Proper.{Ordered, Held}
+use Rattle.settling.specs.declared.Tally.{Tally}
+use Rattle.changes.specs.declared.Answer.{Answer}
+
+-- the bytes are the writing of a valid state: exactly the sound racks are (model, proofs/Bridge.antt)
+pub record Sounded (bs : List ℕ) : Type 0 where
+  pub written : bs ≡ write (read bs)
+  pub valid : Valid base (read bs)
+
+-- where the moves of a change begin: a proper rack with owners in order, on which nothing is pending
+pub record Begun (bs : List ℕ) : Type 0 where
+  pub held : Held bs
+  pub ordered : Ordered (read bs)
+  pub still : (v i : ℕ) → T (pending (read bs) i v) → ⊥
+
+-- u can be promoted to level i
+pub record Liftable (s : State) (i u : ℕ) : Type 0 where
+  pub inside : u < s .n
+  pub low : s .rank u ≤ i
+  pub level : i ≤ base .top
+  pub some : 1 ≤ below s u i
+
+-- none of 7 to 11 fits
+pub record Acceptable (s : State) (code a b : ℕ) : Type 0 where
+  pub inside : (a < s .n) × (b < s .n)
+  pub apart : a ≢ b
+  pub adds : code ≡ 1 → edge s a b ≡ false
+  pub drops : code ≢ 1 → edge s a b ≡ true
+
+-- the moves of a change that is accepted
+unfoldable pub acceptedRun : State → Change → Run
+acceptedRun s c = elim (eqb (c .code) 1) [
+  | true ↦ add base (c .words) (lower (c .a) (c .b)) (upper (c .a) (c .b)) s
+  | false ↦ drop base (c .words) (lower (c .a) (c .b)) (upper (c .a) (c .b)) s
+]
+
+-- what a run leaves: the rack's bytes and the tally
+pub record Ran (r : Run) (bs : List ℕ) (t : Tally) : Type 0 where
+  pub rack : bs ≡ write (r .state)
+  pub draws : t .draws ≡ r .draws
+  pub falls : t .falls ≡ r .falls
+
+-- the answer in the code's words is the definition's, figure by figure
+pub record Answers (r : Answer) (x : AnswerOf) : Type 0 where
+  pub number : r .number ≡ x .number
+  pub draws : r .draws ≡ x .draws
+  pub falls : r .falls ≡ x .falls
+  pub pairs : r .pairs ≡ x .pairs
+
+abbrev pub brought : ℕ → ℕ → ℕ → List ℕ → Change
+brought code a b words = record { code = code; a = a; b = b; words = words }
+
+-- 8 or 9, or 0
+unfoldable pub endsNumber : ℕ → ℕ → ℕ → ℕ
+endsNumber n a b = elim (ltb a n && ltb b n) [ false ↦ 8 | true ↦ elim (eqb a b) [ true ↦ 9 | false ↦ 0 ] ]
+
+-- 12, or 0
+unfoldable pub wordsNumber : ℕ → List ℕ → ℕ
+wordsNumber n words = elim (ltb (length words) (n / 2)) [ true ↦ 12 | false ↦ 0 ]

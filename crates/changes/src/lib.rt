@@ -1,0 +1,215 @@
+// One change of a rack that is known to be sound: its number, and the add or drop with its settling.
+ghost use mathlib.Core.Path.{_≡_};
+ghost use mathlib.Core.Logic.{_≢_};
+ghost use mathlib.Core.Bool.{true, false};
+ghost use Prim.Native.Nat.{_<_};
+ghost use lib.Dec.{ltb};
+ghost use Rattle.model.specs.State.{base, edge, pairs as pairsOf};
+ghost use Rattle.model.specs.Bytes.{read, write};
+ghost use Rattle.model.specs.Moves.{part as parted, promote as promoted, settle as settled};
+ghost use Rattle.model.specs.Change.{start, add as added, drop as dropped, number as numberOf, change as changeOf};
+ghost use Rattle.moves.specs.Proper.{Held};
+ghost use Rattle.changes.specs.Sounded.{Sounded, Begun, Liftable, Acceptable, acceptedRun, Ran, Answers, brought, endsNumber, wordsNumber};
+use settling::Tally;
+
+// "A change answers 0, its draws, its falls (moves down by one level) and the pairs then held."
+pub struct Answer {
+    pub number: u32,
+    pub draws: u32,
+    pub falls: u32,
+    pub pairs: u32,
+}
+
+// Whether v is the lower vertex of a pair.
+fn is_lower(rack: &[u8], v: usize, n: usize) -> bool
+    requires { ⌜ Held (now rack) ⌝ }
+    requires { ⌜ (v < n) × (n ≡ read (now rack) .n) ⌝ }
+    ensures { λ r. ⌜ r ≡ ltb v (read (now (rack .entry)) .mate v) ⌝ }
+{
+    let m = layout::mate(rack, v) as usize;
+    if m <= v {
+        return false;
+    }
+    m < n
+}
+
+// The pairs held, each at its lower vertex.
+pub fn pairs(rack: &[u8]) -> u32
+    requires { ⌜ Held (now rack) ⌝ }
+    ensures { λ r. ⌜ r ≡ pairsOf (read (now (rack .entry))) ⌝ }
+{
+    let n = layout::size(rack);
+    let mut count = 0;
+    let mut v = 0;
+    while v < n {
+        if is_lower(rack, v, n) {
+            count += 1;
+        }
+        v += 1;
+    }
+    count
+}
+
+// "8. A board named is n or more." and "9. The two boards named are the same.", or 0.
+fn ends_number(n: usize, a: u32, b: u32) -> u32
+    ensures { λ r. ⌜ r ≡ endsNumber n a b ⌝ }
+{
+    if n <= a as usize {
+        return 8;
+    }
+    if n <= b as usize {
+        return 8;
+    }
+    if a == b {
+        return 9;
+    }
+    0
+}
+
+// "12. Fewer words are lent than n div 2.", or 0.
+fn words_number(n: usize, words: &[u32]) -> u32
+    ensures { λ r. ⌜ r ≡ wordsNumber n (now (words .entry)) ⌝ }
+{
+    if words.len() < n / 2 {
+        return 12;
+    }
+    0
+}
+
+// The number of an add: "10. A link to add is there already." stands between those of the boards and that of the words.
+fn add_number(rack: &[u8], a: u32, b: u32, words: &[u32]) -> u32
+    requires { ⌜ Held (now rack) ⌝ }
+    ensures { λ r. ⌜ r ≡ numberOf (read (now (rack .entry)) .n) (edge (read (now (rack .entry)))) (brought 1 a b (now (words .entry))) ⌝ }
+{
+    let n = layout::size(rack);
+    let k = ends_number(n, a, b);
+    if k != 0 {
+        return k;
+    }
+    if layout::linked(rack, a as usize, b as usize) {
+        return 10;
+    }
+    words_number(n, words)
+}
+
+// The number of a drop: "11. A link to drop isn't there."
+fn drop_number(rack: &[u8], a: u32, b: u32, words: &[u32]) -> u32
+    requires { ⌜ Held (now rack) ⌝ }
+    ensures { λ r. ⌜ r ≡ numberOf (read (now (rack .entry)) .n) (edge (read (now (rack .entry)))) (brought 2 a b (now (words .entry))) ⌝ }
+{
+    let n = layout::size(rack);
+    let k = ends_number(n, a, b);
+    if k != 0 {
+        return k;
+    }
+    if layout::linked(rack, a as usize, b as usize) {
+        return words_number(n, words);
+    }
+    11
+}
+
+// The first of 7 to 12 that fits a change, or 0: "7. The change code is neither 1 (add) nor 2 (drop)."
+pub fn number(rack: &[u8], code: u32, a: u32, b: u32, words: &[u32]) -> u32
+    requires { ⌜ Held (now rack) ⌝ }
+    ensures { λ r. ⌜ r ≡ numberOf (read (now (rack .entry)) .n) (edge (read (now (rack .entry)))) (brought code a b (now (words .entry))) ⌝ }
+{
+    if code == 1 {
+        return add_number(rack, a, b, words);
+    }
+    if code == 2 {
+        return drop_number(rack, a, b, words);
+    }
+    7
+}
+
+// An add of an edge that is not there: a is the lower number.
+fn add(rack: &mut [u8], a: usize, b: usize, words: &[u32]) -> Tally
+    requires { ⌜ Sounded (now rack) ⌝ }
+    requires { ⌜ (a < read (now rack) .n) × (b < read (now rack) .n) × (a ≢ b) × (edge (read (now rack)) a b ≡ false) ⌝ }
+    ensures { λ r. ⌜ Ran (added base (now (words .entry)) a b (read (now (rack .entry)))) (now (rack .exit)) r ⌝ }
+{
+    edges::add_edge(rack, a, b);
+    let edges::Reached::At(i, u) = edges::riser(rack, a, b) else {
+        return Tally::new();
+    };
+    promote_and_settle(rack, u, i, words)
+}
+
+// "The riser's pair, if any, is parted; it rises, it draws, the settling follows."
+fn promote_and_settle(rack: &mut [u8], u: usize, i: usize, words: &[u32]) -> Tally
+    requires { ⌜ Begun (now rack) ⌝ }
+    requires { ⌜ Liftable (read (now rack)) i u ⌝ }
+    ensures { λ r. ⌜ Ran (settled base (now (words .entry)) (promoted (now (words .entry)) i u (start (read (now (rack .entry)))))) (now (rack .exit)) r ⌝ }
+{
+    let mut waiting = layout::empty_row();
+    let t = settling::promote(rack, &mut waiting, words, u, i, Tally::new());
+    settling::settle(rack, &mut waiting, words, t)
+}
+
+// "part them and settle": a's mate is b.
+fn part_and_settle(rack: &mut [u8], a: usize, b: usize, words: &[u32]) -> Tally
+    requires { ⌜ Begun (now rack) ⌝ }
+    requires { ⌜ (a < read (now rack) .n) × (b < read (now rack) .n) × (read (now rack) .mate a ≡ b) ⌝ }
+    ensures { λ r. ⌜ Ran (settled base (now (words .entry)) (start (parted a (read (now (rack .entry)))))) (now (rack .exit)) r ⌝ }
+{
+    let mut waiting = layout::empty_row();
+    bitset::insert(&mut waiting, a);
+    bitset::insert(&mut waiting, b);
+    moves::part(rack, a);
+    settling::settle(rack, &mut waiting, words, Tally::new())
+}
+
+// A drop of an edge that is there: a is the lower number. "If its ends were mates, part them and settle."
+fn drop(rack: &mut [u8], a: usize, b: usize, words: &[u32]) -> Tally
+    requires { ⌜ Sounded (now rack) ⌝ }
+    requires { ⌜ (a < read (now rack) .n) × (b < read (now rack) .n) × (a ≢ b) × (edge (read (now rack)) a b ≡ true) ⌝ }
+    ensures { λ r. ⌜ Ran (dropped base (now (words .entry)) a b (read (now (rack .entry)))) (now (rack .exit)) r ⌝ }
+{
+    edges::drop_edge(rack, a, b);
+    if layout::mate(rack, a) as usize == b {
+        return part_and_settle(rack, a, b, words);
+    }
+    Tally::new()
+}
+
+// A change that none of the numbers fits.
+fn accepted(rack: &mut [u8], code: u32, a: usize, b: usize, words: &[u32]) -> Tally
+    requires { ⌜ Sounded (now rack) ⌝ }
+    requires { ⌜ Acceptable (read (now rack)) code a b ⌝ }
+    ensures { λ r. ⌜ Ran (acceptedRun (read (now (rack .entry))) (brought code a b (now (words .entry)))) (now (rack .exit)) r ⌝ }
+{
+    if code == 1 {
+        if b < a {
+            return add(rack, b, a, words);
+        }
+        return add(rack, a, b, words);
+    }
+    if b < a {
+        return drop(rack, b, a, words);
+    }
+    drop(rack, a, b, words)
+}
+
+// One change of a sound rack, without the audit.
+pub fn change(rack: &mut [u8], code: u32, a: u32, b: u32, words: &[u32]) -> Answer
+    requires { ⌜ Sounded (now rack) ⌝ }
+    ensures answers { λ r. ⌜ Answers r (changeOf base (read (now (rack .entry))) (brought code a b (now (words .entry))) .answer) ⌝ }
+    ensures leaves { λ _. ⌜ now (rack .exit) ≡ write (changeOf base (read (now (rack .entry))) (brought code a b (now (words .entry))) .state) ⌝ }
+{
+    let k = number(rack, code, a, b, words);
+    if k != 0 {
+        return Answer {
+            number: k,
+            draws: 0,
+            falls: 0,
+            pairs: 0,
+        };
+    }
+    let t = accepted(rack, code, a as usize, b as usize, words);
+    Answer {
+        number: 0,
+        draws: t.draws,
+        falls: t.falls,
+        pairs: pairs(rack),
+    }
+}
