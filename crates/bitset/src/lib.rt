@@ -1,12 +1,14 @@
 // Rows of bits in bytes, lent as slices: place w is bit w mod 8 of byte w div 8, for any row length.
 // The contracts cite specs/Row.antt; callers use the laws of proofs/Laws.antt and need no bit arithmetic.
 ghost use mathlib.Core.Path.{_≡_};
-ghost use Prim.Native.Nat.{_/_, _<_, _*_, _^_, _%_, _≤_};
+ghost use Prim.Native.Nat.{ℕ, _+_, _/_, _<_, _*_, _^_, _%_, _≤_};
 ghost use lib.Dec.{T};
-ghost use lib.ListN.{length};
+ghost use lib.ListN.{length, getD};
 ghost use lib.Count.{ones as onesOf};
 ghost use Rattle.model.specs.Bytes.{bitOf};
+ghost use Rattle.model.proofs.Facts.{Says};
 ghost use Rattle.bitset.specs.Row.{member, inserted, removed, Nth, Next, size as sizeOf};
+ghost use Rattle.bitset.specs.Words.{Rest};
 
 // Whether place w is in the row.
 pub fn test(row: &[u8], w: usize) -> bool
@@ -116,4 +118,76 @@ pub fn next(row: &[u8], from: usize) -> usize
         return from + u8::trailing_zeros(rest) as usize;
     }
     next_byte(row, i + 1)
+}
+
+// Eight bytes as one word, low byte first. Taken as parameters the bytes have their range, so nothing is left to prove of them.
+fn join(b0: u8, b1: u8, b2: u8, b3: u8, b4: u8, b5: u8, b6: u8, b7: u8) -> u64
+    ensures { λ r. ⌜ r ≡ b0 + 256 * b1 + 65536 * b2 + 16777216 * b3 + 4294967296 * b4 + 1099511627776 * b5 + 281474976710656 * b6 + 72057594037927936 * b7 ⌝ }
+{
+    (b0 as u64)
+        + 256 * (b1 as u64)
+        + 65536 * (b2 as u64)
+        + 16777216 * (b3 as u64)
+        + 4294967296 * (b4 as u64)
+        + 1099511627776 * (b5 as u64)
+        + 281474976710656 * (b6 as u64)
+        + 72057594037927936 * (b7 as u64)
+}
+
+// The eight bytes from byte i on as one word: its bit j is place 8 i + j.
+pub fn word(row: &[u8], i: usize) -> u64
+    requires { ⌜ i + 8 ≤ length (now row) ⌝ }
+    ensures { λ r. ⌜ Rest (λ j. member (now (row .entry)) (8 * i + j)) 0 r ⌝ }
+{
+    join(
+        row[i],
+        row[i + 1],
+        row[i + 2],
+        row[i + 3],
+        row[i + 4],
+        row[i + 5],
+        row[i + 6],
+        row[i + 7],
+    )
+}
+
+// The number of places in a row of whole words of eight bytes.
+pub fn size_by_words(row: &[u8]) -> usize
+    requires { ⌜ length (now row) < 2 ^ 60 ⌝ }
+    requires { ⌜ length (now row) % 8 ≡ 0 ⌝ }
+    ensures { λ r. ⌜ r ≡ sizeOf (now (row .entry)) ⌝ }
+{
+    let mut sum = 0;
+    let mut i = 0;
+    while i < row.len() {
+        sum += u64::count_ones(word(row, i)) as usize;
+        i += 8;
+    }
+    sum
+}
+
+// Whether every byte is 0. The bytes are gathered with no way out on the way, so that the loop runs on more bytes a step.
+pub fn is_zero(part: &[u8]) -> bool
+    ensures { λ r. ⌜ Says r ((k : ℕ) → k < length (now (part .entry)) → getD (now (part .entry)) k 0 ≡ 0) ⌝ }
+{
+    let mut acc: u8 = 0;
+    let mut i = 0;
+    while i < part.len() {
+        acc = acc | part[i];
+        i += 1;
+    }
+    acc == 0
+}
+
+// Whether every byte is 255.
+pub fn is_ones(part: &[u8]) -> bool
+    ensures { λ r. ⌜ Says r ((k : ℕ) → k < length (now (part .entry)) → getD (now (part .entry)) k 0 ≡ 255) ⌝ }
+{
+    let mut acc: u8 = 255;
+    let mut i = 0;
+    while i < part.len() {
+        acc = acc & part[i];
+        i += 1;
+    }
+    acc == 255
 }

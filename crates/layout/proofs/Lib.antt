@@ -3,3 +3,5 @@ pub mod Parts
 pub mod Pieces
 pub mod Images
 pub mod Cleared
+pub mod Said
+pub mod Spans

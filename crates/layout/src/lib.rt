@@ -2,13 +2,19 @@
 // size of the rack is written. The contracts cite the reading of the bytes in `model` and specs/; callers use the laws of proofs/.
 ghost use mathlib.Core.Path.{_≡_};
 ghost use mathlib.Core.Bool.{_||_};
-ghost use Prim.Native.Nat.{_<_, _≤_, _+_, _*_};
+ghost use Prim.Native.Nat.{ℕ, _<_, _≤_, _+_, _*_};
+ghost use lib.Dec.{T};
 ghost use lib.ListN.{length, replicate};
 ghost use Rattle.model.specs.State.{base, empty};
+ghost use Rattle.model.specs.Counting.{sum};
 ghost use Rattle.model.specs.Bytes.{most as mostOf, sizeAt, edgesAt, rankAt, mateAt, phiAt, ownsAt, write};
 ghost use Rattle.model.specs.Calls.{sized as sizedOf};
+ghost use Rattle.model.proofs.Facts.{Says};
+ghost use Rattle.bitset.specs.Words.{Rest};
 ghost use Rattle.layout.specs.Setters.{Sized, setEdges, setRank, setMate, setPhi, own as owned, disown as disowned, blanked};
 ghost use Rattle.layout.specs.Rows.{degreeAt, NthOwned, NextOwned};
+
+pub mod unused;
 
 // "The thresholds for levels 0, 1, 2, 3 are 1, 4, 16 and 64, that is 4^j."
 const THRESHOLDS: [u8; 4] = [1, 4, 16, 64];
@@ -207,6 +213,42 @@ pub fn next_owned(rack: &[u8], v: usize, from: usize) -> usize
 {
     let at = 1800 + 32 * v;
     bitset::next(&rack[at..at + 32], from)
+}
+
+// The most vertices that a rack has.
+pub const MOST: usize = 256;
+
+// The entry for the mate of a free vertex.
+pub const NO_MATE: u16 = 65535;
+
+// 64 places of the row of v, from 64 k on, as one word.
+pub fn word(rack: &[u8], v: usize, k: usize) -> u64
+    requires { ⌜ Sized (now rack) ⌝ }
+    requires { ⌜ v < mostOf ⌝ }
+    requires { ⌜ 64 * k < mostOf ⌝ }
+    ensures { λ r. ⌜ Rest (λ j. ownsAt (now (rack .entry)) v (64 * k + j)) 0 r ⌝ }
+{
+    bitset::word(rack, 1800 + 32 * v + 8 * k)
+}
+
+// Whether v owns no edge to a vertex from `from` on.
+pub fn owns_none_from(rack: &[u8], v: usize, from: usize) -> bool
+    requires { ⌜ Sized (now rack) ⌝ }
+    requires { ⌜ v < mostOf ⌝ }
+    requires { ⌜ from ≤ mostOf ⌝ }
+    ensures { λ r. ⌜ Says r ((w : ℕ) → w < mostOf → from ≤ w → T (ownsAt (now (rack .entry)) v w) → ⊥) ⌝ }
+{
+    next_owned(rack, v, from) == MOST
+}
+
+// How many edges the vertices below n own together. Their rows stand one after the other, so that they are counted as one.
+pub fn degrees(rack: &[u8], n: usize) -> usize
+    requires { ⌜ Sized (now rack) ⌝ }
+    requires { ⌜ n ≤ mostOf ⌝ }
+    ensures { λ r. ⌜ r ≡ sum (degreeAt (now (rack .entry))) n ⌝ }
+{
+    let end = 1800 + 32 * n;
+    bitset::size_by_words(&rack[1800..end])
 }
 
 // Every byte of a part set to x.

@@ -1,0 +1,7 @@
+-- The laws that the proofs of `audit` rest on.
+pub mod Tally
+pub mod Walk
+pub mod Linked
+pub mod Sums
+pub mod Phi
+pub mod Whole

@@ -1,0 +1,128 @@
+-- The walk over a row, word by word and bit by bit: what holds as far as a place goes on over a stretch with no edge, and over an edge.
+-- Assumes nothing.
+use mathlib.Core.Path.{_≡_, sym, ap, _∙_, subst}
+use mathlib.Core.Logic.{inl, inr}
+use mathlib.Core.Bool.{Bool}
+use mathlib.Core.List.{List}
+use Prim.Native.Nat.{ℕ, _+_, _-_, _*_, _≤_, _<_}
+use native.Mathlib.Omega.{arith}
+use lib.Dec.{T}
+use lib.ListN.{getD}
+use lib.Bits.{bitAnd}
+use lib.Count.{trailingZeros}
+use Rattle.model.specs.Bytes.{rankAt, ownsAt}
+use Rattle.model.proofs.Tests.{eq?, le?}
+use Rattle.bitset.specs.Words.{Rest}
+use Rattle.bitset.proofs.Words.{rest-first, rest-end}
+use Rattle.audit.specs.Tally.{tallied, partly, Holds, Added}
+use Rattle.audit.specs.Parts.{Right, RightBelow, Walked, OnceBelow}
+use Rattle.audit.proofs.Tally.{share-other, share-add, share-skip, share-none, tallied-suc, partly-small}
+
+-- ---- within a word
+
+-- P holds as far as some place of the word of o from base on, and x holds the places from there on
+pub record Midway (o : ℕ → Bool) (P : ℕ → Type 0) (base x : ℕ) : Type 0 where
+  pub at : ℕ
+  pub few : at ≤ 64
+  pub rest : Rest (λ j. o (base + j)) at x
+  pub walked : P (base + at)
+
+-- what holds as far as p holds as far as q, where there is no place between
+abbrev pub Skips : (ℕ → Bool) → (ℕ → Type 0) → Type 0
+Skips o P = (p q : ℕ) → p ≤ q → ((j : ℕ) → p ≤ j → j < q → T (o j) → ⊥) → P p → P q
+
+pub midway-start : (o : ℕ → Bool) (P : ℕ → Type 0) (base x : ℕ) → Rest (λ j. o (base + j)) 0 x → P base → Midway o P base x
+midway-start o P base x r w =
+    let e : base ≡ base + 0 = omega arith in
+    record { at = 0; few = omega arith; rest = r; walked = subst P e w }
+
+module _ (o : ℕ → Bool) (P : ℕ → Type 0) (skips : Skips o P) (base x : ℕ) (m : Midway o P base x) where
+  -- a place between two of the word, as one of the word
+  none-between : (t : ℕ) → ((j : ℕ) → m .at ≤ j → j < t → T (o (base + j)) → ⊥) → (j : ℕ) → base + m .at ≤ j → j < base + t → T (o j) → ⊥
+  none-between t f j a b h =
+      let e : j ≡ base + (j - base) = omega arith in
+      f (j - base) (omega arith) (omega arith) (subst (λ (y : ℕ). T (o y)) e h)
+
+  -- the first place of the rest
+  pub midway-first : 0 < x → (trailingZeros 64 x < 64) × T (o (base + trailingZeros 64 x)) × P (base + trailingZeros 64 x)
+  midway-first some =
+      let f = rest-first (m .rest) some in (
+        f .within,
+        f .is,
+        skips (base + m .at) (base + trailingZeros 64 x) (omega (arith, f .after)) (none-between (trailingZeros 64 x) (f .skipped)) (m .walked),
+      )
+
+  -- past it, where more holds
+  pub midway-next : 0 < x → (Q : ℕ → Type 0) → Q (base + trailingZeros 64 x + 1) → Midway o Q base (bitAnd x (x - 1))
+  midway-next some Q q =
+      let f = rest-first (m .rest) some in
+      let e : base + trailingZeros 64 x + 1 ≡ base + (trailingZeros 64 x + 1) = omega arith in
+      record { at = trailingZeros 64 x + 1; few = omega (arith, f .within); rest = f .next; walked = subst Q e q }
+
+  -- the whole word
+  pub midway-end : x ≡ 0 → P (base + 64)
+  midway-end z = skips (base + m .at) (base + 64) (omega (arith, m .few)) (none-between 64 (rest-end (m .rest) z)) (m .walked)
+
+-- ---- a row below the top
+
+module _ (bs t : List ℕ) (v : ℕ) where
+  pub walked-skips : Skips (ownsAt bs v) (Walked bs t v)
+  unfolding partly
+  walked-skips p q h none w = record {
+    right = λ x l o. elim (le? p x) [ inl a ↦ absurd (none x a l o) | inr a ↦ w .right x a o ];
+    tally = record {
+      long = w .tally .long;
+      at = λ x r hx hr. w .tally .at x r hx hr ∙ ap (λ (y : ℕ). tallied bs v x r + y) (share-skip bs v p q x r h none);
+    };
+  }
+
+  pub walked-add : (u : List ℕ) (w : ℕ) → Walked bs t v w → T (ownsAt bs v w) → Right bs v w → Added t u v w (rankAt bs v) → Walked bs u v (w + 1)
+  unfolding partly
+  walked-add u w k o r a = record {
+    right = λ x l q. elim (eq? x w) [
+      | inl e ↦ subst (λ (y : ℕ). Right bs v y) (sym e) r
+      | inr d ↦ k .right x (omega arith) q
+    ];
+    tally = record {
+      long = a .long ∙ k .tally .long;
+      at = λ x s hx hs. omega (arith, a .at x s hs, k .tally .at x s hx hs, share-add bs v w x s o);
+    };
+  }
+
+  pub walked-start : Holds t (tallied bs v) → Walked bs t v 0
+  unfolding partly
+  walked-start h = record {
+    right = λ x l o. absurd (omega arith);
+    tally = record { long = h .long; at = λ x r hx hr. omega (arith, h .at x r hx hr, share-none bs v x r) };
+  }
+
+  -- all of the row
+  pub walked-end : (p : ℕ) → p ≤ 256 → ((j : ℕ) → j < 256 → p ≤ j → T (ownsAt bs v j) → ⊥) → Walked bs t v p → Holds t (tallied bs (v + 1))
+  unfolding partly
+  walked-end p h none w =
+      let all = walked-skips p 256 h (λ j a b. none j b a) w in
+      record { long = w .tally .long; at = λ x r hx hr. all .tally .at x r hx hr ∙ sym (tallied-suc bs v x r) }
+
+  -- entries stay small
+  pub walked-small : (p r : ℕ) → v < 256 → p ≤ 256 → r < 4 → Walked bs t v p → (x : ℕ) → x < 256 → getD t (4 * x + r) 0 < 65534
+  walked-small p r hv hp hr w x hx = omega (arith, w .tally .at x r hx hr, partly-small bs v p x r (omega arith) hp)
+
+  -- where no edge leads past n, a row is right as far as any place
+  pub right-past : (n p : ℕ) → p ≤ 256 → ((j : ℕ) → j < 256 → n ≤ j → T (ownsAt bs v j) → ⊥) → RightBelow bs v n → RightBelow bs v p
+  right-past n p h none g w l o = elim (le? n w) [ inl a ↦ absurd (none w (omega arith) a o) | inr a ↦ g w a o ]
+
+  -- a row at the top adds nothing
+  pub top-adds-none : 3 < rankAt bs v → Holds t (tallied bs v) → Holds t (tallied bs (v + 1))
+  top-adds-none h k = record {
+    long = k .long;
+    at = λ x r hx hr. omega (arith, k .at x r hx hr, tallied-suc bs v x r, share-other bs v 256 x r (λ e. omega arith));
+  }
+
+-- ---- a row at the top
+
+module _ (bs : List ℕ) (v : ℕ) where
+  pub once-skips : Skips (ownsAt bs v) (OnceBelow bs v)
+  once-skips p q h none w x l o = elim (le? p x) [ inl a ↦ absurd (none x a l o) | inr a ↦ w x a o ]
+
+  pub once-add : (w : ℕ) → OnceBelow bs v w → (T (ownsAt bs w v) → ⊥) → OnceBelow bs v (w + 1)
+  once-add w k n x l o = elim (eq? x w) [ inl e ↦ subst (λ (y : ℕ). T (ownsAt bs y v) → ⊥) (sym e) n | inr d ↦ k x (omega arith) o ]

@@ -1,0 +1,153 @@
+// Whether rack bytes are sound: any bytes of a rack's length, damaged in any way. One way over the rows tests the owners and gathers a
+// tally of the edges at each vertex, to which the counts are then held. The contracts cite specs/ and the facts of a sound rack in `model`.
+ghost use mathlib.Core.Path.{_≡_};
+ghost use Prim.Native.Nat.{ℕ, _*_, _<_, _≤_};
+ghost use lib.ListN.{length};
+ghost use Rattle.model.specs.State.{base};
+ghost use Rattle.model.specs.Bytes.{most, sizeAt};
+ghost use Rattle.model.specs.Sound.{sound as soundOf};
+ghost use Rattle.model.proofs.Facts.{Says, Mated};
+ghost use Rattle.layout.specs.Setters.{Sized};
+ghost use Rattle.audit.specs.Parts.{Count, Edges, Mate};
+
+mod rows;
+
+// Whether the counts of v are what the tally says, and below their thresholds.
+fn counts_of(rack: &[u8], tally: &[u16], v: usize) -> bool
+    requires { ⌜ Sized (now rack) ⌝ }
+    requires { ⌜ v < most ⌝ }
+    requires { ⌜ length (now tally) ≡ 4 * most ⌝ }
+    ensures { λ a. ⌜ Says a ((j : ℕ) → j < 4 → Count (now (rack .entry)) (now (tally .entry)) v j) ⌝ }
+{
+    let top = layout::top();
+    let mut total: u32 = 0;
+    let mut j = 0;
+    while j <= top {
+        total += tally[4 * v + j] as u32;
+        let x = layout::phi(rack, v, j);
+        if x as u32 != total {
+            return false;
+        }
+        if layout::threshold(j) <= x {
+            return false;
+        }
+        j += 1;
+    }
+    true
+}
+
+// Whether all counts are.
+fn counts(rack: &[u8], tally: &[u16], n: usize) -> bool
+    requires { ⌜ Sized (now rack) ⌝ }
+    requires { ⌜ n ≤ most ⌝ }
+    requires { ⌜ length (now tally) ≡ 4 * most ⌝ }
+    ensures { λ a. ⌜ Says a ((v : ℕ) → v < n → (j : ℕ) → j < 4 → Count (now (rack .entry)) (now (tally .entry)) v j) ⌝ }
+{
+    let mut v = 0;
+    while v < n {
+        if !counts_of(rack, tally, v) {
+            return false;
+        }
+        v += 1;
+    }
+    true
+}
+
+// Whether w is a right mate for v of rank r.
+fn mated(rack: &[u8], v: usize, w: usize, n: usize) -> bool
+    requires { ⌜ Sized (now rack) ⌝ }
+    requires { ⌜ n ≡ sizeAt (now rack) ⌝ }
+    requires { ⌜ n ≤ most ⌝ }
+    requires { ⌜ v < n ⌝ }
+    ensures { λ a. ⌜ Says a (Mated (now (rack .entry)) v w) ⌝ }
+{
+    if n <= w {
+        return false;
+    }
+    if layout::mate(rack, w) as usize != v {
+        return false;
+    }
+    if layout::rank(rack, w) != layout::rank(rack, v) {
+        return false;
+    }
+    if layout::owns(rack, v, w) {
+        return true;
+    }
+    layout::owns(rack, w, v)
+}
+
+// Whether the mate of v is right, and v has none exactly if its rank is 0.
+fn mate_of(rack: &[u8], v: usize, n: usize) -> bool
+    requires { ⌜ Sized (now rack) ⌝ }
+    requires { ⌜ n ≡ sizeAt (now rack) ⌝ }
+    requires { ⌜ n ≤ most ⌝ }
+    requires { ⌜ v < n ⌝ }
+    ensures { λ a. ⌜ Says a (Mate (now (rack .entry)) v) ⌝ }
+{
+    let m = layout::mate(rack, v);
+    let r = layout::rank(rack, v);
+    if m == layout::NO_MATE {
+        return r == 0;
+    }
+    if r == 0 {
+        return false;
+    }
+    mated(rack, v, m as usize, n)
+}
+
+// Whether all mates are.
+fn mates(rack: &[u8], n: usize) -> bool
+    requires { ⌜ Sized (now rack) ⌝ }
+    requires { ⌜ n ≡ sizeAt (now rack) ⌝ }
+    requires { ⌜ n ≤ most ⌝ }
+    ensures { λ a. ⌜ Says a ((v : ℕ) → v < n → Mate (now (rack .entry)) v) ⌝ }
+{
+    let mut v = 0;
+    while v < n {
+        if !mate_of(rack, v, n) {
+            return false;
+        }
+        v += 1;
+    }
+    true
+}
+
+// Whether the rows and the counts are right.
+fn edges(rack: &[u8], n: usize) -> bool
+    requires { ⌜ Sized (now rack) ⌝ }
+    requires { ⌜ n ≤ most ⌝ }
+    ensures { λ a. ⌜ Says a (Edges (now (rack .entry)) n) ⌝ }
+{
+    let mut tally = [0u16; 4 * layout::MOST];
+    if !rows::all(rack, &mut tally, n) {
+        return false;
+    }
+    counts(rack, &tally, n)
+}
+
+// Whether the bytes are those of a sound rack.
+pub fn sound(rack: &[u8]) -> bool
+    requires { ⌜ Sized (now rack) ⌝ }
+    ensures { λ a. ⌜ a ≡ soundOf base (now (rack .entry)) ⌝ }
+{
+    let n = layout::size(rack);
+    if n < 1 {
+        return false;
+    }
+    if layout::MOST < n {
+        return false;
+    }
+    if !layout::unused::spare_zero(rack) {
+        return false;
+    }
+    if !layout::unused::unused_from(rack, n) {
+        return false;
+    }
+    if !edges(rack, n) {
+        return false;
+    }
+    if layout::degrees(rack, n) != layout::edges(rack) as usize {
+        return false;
+    }
+    mates(rack, n)
+}
