@@ -1,0 +1,47 @@
+-- A series of changes, each call on the bytes that the one before it left, and what demand 3 says of it: of the answers and bytes that the
+-- calls gave, by the contract of `engine::change` alone. Assumes nothing.
+use mathlib.Core.List.{List, [], _∷_}
+use Prim.Native.Nat.{ℕ}
+use Rattle.model.specs.State.{base}
+use Rattle.model.specs.Change.{Change, Answer as AnswerOf}
+use Rattle.model.specs.Calls.{ChangedBytes, changeBytes}
+use Rattle.model.specs.Ledger.{Ledger, entered, enteredAll}
+use Rattle.theory.specs.Demand.{Call, Facts}
+use Rattle.changes.specs.declared.Answer.{Answer}
+use Rattle.engine.specs.Answers.{ChangeIs}
+
+-- one call: what was asked, what it answered, and the rack's bytes after it
+pub record Made : Type 0 where
+  pub change : Change
+  pub answer : Answer
+  pub after : List ℕ
+
+-- each call meets the contract of `engine::change`
+unfoldable pub Series : List ℕ → List Made → Type 0
+Series bs [] = Unit
+Series bs (d ∷ ds) = ChangeIs bs (d .change) (d .answer) (d .after) × Series (d .after) ds
+
+unfoldable pub asked : List Made → List Change
+asked [] = []
+asked (d ∷ ds) = d .change ∷ asked ds
+
+unfoldable pub left : List ℕ → List Made → List ℕ
+left bs [] = bs
+left bs (d ∷ ds) = left (d .after) ds
+
+-- what a call gave; its new pairs are the definition's
+unfoldable pub gave : List ℕ → Made → ChangedBytes
+gave bs d = record {
+  answer = record { number = d .answer .number; draws = d .answer .draws; falls = d .answer .falls; pairs = d .answer .pairs };
+  rack = d .after;
+  news = changeBytes base bs (d .change) .news;
+}
+
+unfoldable pub Right : Ledger → List ℕ → List Made → Type 0
+Right l bs [] = Unit
+Right l bs (d ∷ ds) = Call l bs (d .change) (gave bs d) × Right (entered l (d .change)) (d .after) ds
+
+-- demand 3 of the calls made
+pub record Kept (l : Ledger) (bs : List ℕ) (ds : List Made) : Type 0 where
+  pub calls : Right l bs ds
+  pub last : Facts (enteredAll l (asked ds)) (left bs ds)

@@ -1,0 +1,186 @@
+// The calls of document 01 on a lent rack: making, a change, the audit and the queries. None has a `requires`: what a call cannot do it turns back,
+// with the first number that fits, and then every byte stays. Each contract names the definition that leaves one outcome.
+ghost use mathlib.Core.Path.{_≡_};
+ghost use lib.IntN.{pos, predℤ};
+ghost use Rattle.model.specs.State.{base};
+ghost use Rattle.model.specs.Calls.{rackNumber, makeNumber, made, audit as auditOf, oneNumber, twoNumber, levelQuery, mateQuery, linkedQuery};
+ghost use Rattle.changes.specs.Sounded.{brought};
+ghost use Rattle.engine.specs.Answers.{ChangeIs, AuditIs, LevelIs, QueryIs};
+use changes::Answer;
+
+// "the audit 0 and yes or no"
+pub struct AuditAnswer {
+    pub number: u32,
+    pub yes: bool,
+}
+
+// "a query 0 and the level"
+pub struct LevelAnswer {
+    pub number: u32,
+    pub level: i32,
+}
+
+// "a query 0 and [..] the mate (65,535 if idle), or 1 for linked and 0 for not linked"
+pub struct QueryAnswer {
+    pub number: u32,
+    pub value: u32,
+}
+
+// 1 or 6, or 0 if neither fits.
+pub fn rack_number(rack: &[u8]) -> u32
+    ensures { λ r. ⌜ r ≡ rackNumber base (now (rack .entry)) ⌝ }
+{
+    if !layout::sized(rack) {
+        return 1;
+    }
+    if audit::sound(rack) {
+        return 0;
+    }
+    6
+}
+
+// Making: the rack of n boards with no link.
+pub fn make(rack: &mut [u8], n: u32) -> u32
+    ensures number { λ r. ⌜ r ≡ makeNumber (now (rack .entry)) n ⌝ }
+    ensures leaves { λ _. ⌜ now (rack .exit) ≡ made (now (rack .entry)) n ⌝ }
+{
+    if !layout::sized(rack) {
+        return 1;
+    }
+    if n == 0 {
+        return 5;
+    }
+    if layout::most() < n as usize {
+        return 5;
+    }
+    layout::clear(rack, n as u16);
+    0
+}
+
+// A change: add (code 1) or drop (code 2) the link a-b, with words lent for its draws.
+pub fn change(rack: &mut [u8], code: u32, a: u32, b: u32, words: &[u32]) -> Answer
+    ensures { λ r. ⌜ ChangeIs (now (rack .entry)) (brought code a b (now (words .entry))) r (now (rack .exit)) ⌝ }
+{
+    let k = rack_number(rack);
+    if k != 0 {
+        return Answer {
+            number: k,
+            draws: 0,
+            falls: 0,
+            pairs: 0,
+        };
+    }
+    changes::change(rack, code, a, b, words)
+}
+
+// The audit.
+pub fn audit(rack: &[u8]) -> AuditAnswer
+    ensures { λ r. ⌜ AuditIs r (auditOf base (now (rack .entry))) ⌝ }
+{
+    if !layout::sized(rack) {
+        return AuditAnswer {
+            number: 1,
+            yes: false,
+        };
+    }
+    AuditAnswer {
+        number: 0,
+        yes: audit::sound(rack),
+    }
+}
+
+// 1, 6 or 8 for a query that names one board.
+fn one_number(rack: &[u8], v: u32) -> u32
+    ensures { λ r. ⌜ r ≡ oneNumber base (now (rack .entry)) v ⌝ }
+{
+    let k = rack_number(rack);
+    if k != 0 {
+        return k;
+    }
+    if layout::size(rack) <= v as usize {
+        return 8;
+    }
+    0
+}
+
+// 1, 6, 8 or 9 for a query that names two boards.
+fn two_number(rack: &[u8], v: u32, w: u32) -> u32
+    ensures { λ r. ⌜ r ≡ twoNumber base (now (rack .entry)) v w ⌝ }
+{
+    let k = one_number(rack, v);
+    if k != 0 {
+        return k;
+    }
+    if layout::size(rack) <= w as usize {
+        return 8;
+    }
+    if v == w {
+        return 9;
+    }
+    0
+}
+
+// The level that a rank stands for: one less.
+fn level_of(rank: u8) -> i32
+    ensures { λ r. ⌜ r ≡ predℤ (pos rank) ⌝ }
+{
+    if rank == 0 {
+        return -1;
+    }
+    (rank - 1) as i32
+}
+
+// The level of a board.
+pub fn level(rack: &[u8], v: u32) -> LevelAnswer
+    ensures { λ r. ⌜ LevelIs r (levelQuery base (now (rack .entry)) v) ⌝ }
+{
+    let k = one_number(rack, v);
+    if k != 0 {
+        return LevelAnswer {
+            number: k,
+            level: 0,
+        };
+    }
+    let level = level_of(layout::rank(rack, v as usize));
+    LevelAnswer { number: 0, level }
+}
+
+// The mate of a board, 65,535 if it is idle.
+pub fn mate(rack: &[u8], v: u32) -> QueryAnswer
+    ensures { λ r. ⌜ QueryIs r (mateQuery base (now (rack .entry)) v) ⌝ }
+{
+    let k = one_number(rack, v);
+    if k != 0 {
+        return QueryAnswer {
+            number: k,
+            value: 0,
+        };
+    }
+    QueryAnswer {
+        number: 0,
+        value: layout::mate(rack, v as usize) as u32,
+    }
+}
+
+// Whether two boards are linked: 1 or 0.
+pub fn linked(rack: &[u8], v: u32, w: u32) -> QueryAnswer
+    ensures { λ r. ⌜ QueryIs r (linkedQuery base (now (rack .entry)) v w) ⌝ }
+{
+    let k = two_number(rack, v, w);
+    if k != 0 {
+        return QueryAnswer {
+            number: k,
+            value: 0,
+        };
+    }
+    if layout::linked(rack, v as usize, w as usize) {
+        return QueryAnswer {
+            number: 0,
+            value: 1,
+        };
+    }
+    QueryAnswer {
+        number: 0,
+        value: 0,
+    }
+}
