@@ -1,0 +1,1 @@
+-- Nothing: the contracts of the exports cite the calls of `model`.
