@@ -196,10 +196,10 @@ pub fn change(rack: &mut [u8], code: u32, a: u32, b: u32, words: &[u32]) -> Answ
     ensures answers { λ r. ⌜ Answers r (changeOf base (read (now (rack .entry))) (brought code a b (now (words .entry))) .answer) ⌝ }
     ensures leaves { λ _. ⌜ now (rack .exit) ≡ write (changeOf base (read (now (rack .entry))) (brought code a b (now (words .entry))) .state) ⌝ }
 {
-    let k = number(rack, code, a, b, words);
-    if k != 0 {
+    let refused = number(rack, code, a, b, words);
+    if refused != 0 {
         return Answer {
-            number: k,
+            number: refused,
             draws: 0,
             falls: 0,
             pairs: 0,

@@ -1,0 +1,175 @@
+//! What is measured: racks with so many edges, and series of changes. All of
+//! it is made by the tuned program and the same in every run.
+
+use crate::side::Change;
+use tuned::{RackBytes, RACK_BYTES};
+
+/// All edges among 256 vertices.
+pub const DENSEST: usize = 32_640;
+
+/// Changes of a series, and racks along it that are kept for direct changes.
+pub const SERIES: usize = 8_192;
+pub const DIRECT: usize = 256;
+
+/// Words in the common store.
+const STORE: usize = 4_096;
+
+/// A small repeatable source of random numbers (splitmix64).
+struct Random(u64);
+
+impl Random {
+    fn bits(&mut self) -> u64 {
+        self.0 = self.0.wrapping_add(0x9e37_79b9_7f4a_7c15);
+        let mut mixed = self.0;
+        mixed = (mixed ^ (mixed >> 30)).wrapping_mul(0xbf58_476d_1ce4_e5b9);
+        mixed = (mixed ^ (mixed >> 27)).wrapping_mul(0x94d0_49bb_1331_11eb);
+        mixed ^ (mixed >> 31)
+    }
+
+    fn below(&mut self, k: usize) -> usize {
+        (self.bits() % k as u64) as usize
+    }
+}
+
+fn fresh(n: usize) -> RackBytes {
+    let mut rack = [0; RACK_BYTES];
+    tuned::make(&mut rack, n as u16);
+    rack
+}
+
+/// A rack of 256 vertices with so many edges, added in random order.
+pub fn with_edges(edges: usize) -> RackBytes {
+    let mut random = Random(edges as u64);
+    let mut all: Vec<(u32, u32)> = (0..256).flat_map(|v| (0..v).map(move |w| (v, w))).collect();
+    let words: Vec<u32> = (0..128).map(|_| random.bits() as u32).collect();
+    let mut rack = fresh(256);
+    for last in (all.len() - edges..all.len()).rev() {
+        let place = random.below(last + 1);
+        all.swap(last, place);
+        let (a, b) = all[last];
+        tuned::change_sound(&mut rack, 1, a, b, &words);
+    }
+    rack
+}
+
+/// A series of accepted changes from an empty rack: it grows to the middle and
+/// then stays about as it is.
+pub struct Series {
+    pub n: usize,
+    pub changes: Vec<Change>,
+    pub words: Vec<u32>,
+    /// A rack here and there along the series, with the place of its change.
+    pub racks: Vec<(RackBytes, usize)>,
+    /// The rack at the end.
+    pub end: RackBytes,
+}
+
+impl Series {
+    pub fn of(n: usize) -> Series {
+        let mut random = Random(n as u64);
+        let words = (0..STORE).map(|_| random.bits() as u32).collect();
+        let mut series = Series {
+            n,
+            changes: Vec::with_capacity(SERIES),
+            words,
+            racks: Vec::with_capacity(DIRECT),
+            end: fresh(n),
+        };
+        let mut walk = Walk {
+            rack: fresh(n),
+            edges: Vec::new(),
+        };
+        while series.changes.len() < SERIES {
+            series.extend(&mut random, &mut walk);
+        }
+        series.end = walk.rack;
+        series
+    }
+
+    pub fn start(&self) -> RackBytes {
+        fresh(self.n)
+    }
+
+    /// The words of a change, as many as it must bring.
+    pub fn words(&self, change: &Change) -> &[u32] {
+        &self.words[change.words_at..change.words_at + self.n / 2]
+    }
+
+    /// Tries one change on the walk, and takes it into the series if it is
+    /// accepted.
+    fn extend(&mut self, random: &mut Random, walk: &mut Walk) {
+        let place = self.changes.len();
+        let adds = if place < SERIES / 2 { 75 } else { 50 };
+        let (code, a, b) = walk.choose(random, self.n, adds);
+        let words_at = random.below(STORE - 128);
+        let change = Change {
+            code,
+            a,
+            b,
+            words_at,
+        };
+        let before = walk.rack;
+        let answer = tuned::change_sound(&mut walk.rack, code, a, b, self.words(&change));
+        if answer.number != 0 {
+            return;
+        }
+        walk.note(code, a, b);
+        if place % (SERIES / DIRECT) == SERIES / DIRECT / 2 {
+            self.racks.push((before, place));
+        }
+        self.changes.push(change);
+    }
+}
+
+/// A rack on its way, and its edges.
+struct Walk {
+    rack: RackBytes,
+    edges: Vec<(u32, u32)>,
+}
+
+impl Walk {
+    /// An add of any two vertices, or a drop: of a pair in half of the cases,
+    /// so that vertices draw and fall.
+    fn choose(&self, random: &mut Random, n: usize, adds: usize) -> (u32, u32, u32) {
+        if self.edges.is_empty() || random.below(100) < adds {
+            return (1, random.below(n) as u32, random.below(n) as u32);
+        }
+        let v = random.below(n);
+        let mate = u16::from_le_bytes([self.rack[264 + 2 * v], self.rack[265 + 2 * v]]);
+        if random.below(2) == 0 && usize::from(mate) < n {
+            return (2, v as u32, u32::from(mate));
+        }
+        let (a, b) = self.edges[random.below(self.edges.len())];
+        (2, a, b)
+    }
+
+    fn note(&mut self, code: u32, a: u32, b: u32) {
+        let edge = (a.min(b), a.max(b));
+        if code == 1 {
+            self.edges.push(edge);
+        } else {
+            self.edges.retain(|&other| other != edge);
+        }
+    }
+}
+
+/// A trace text with as many of the first changes of a series as it can hold.
+pub fn text(series: &Series) -> (Vec<u8>, usize) {
+    let mut text = format!("(rack (boards {}))\n", series.n);
+    let mut lines = 0;
+    for change in &series.changes {
+        let name = if change.code == 1 { "add" } else { "drop" };
+        let words: String = series
+            .words(change)
+            .iter()
+            .map(|word| format!(" {}", word % 10))
+            .collect();
+        let line = format!("({name} ({} {}) (draws{words}))\n", change.a, change.b);
+        if text.len() + line.len() > tuned::TEXT_LIMIT {
+            break;
+        }
+        text += &line;
+        lines += 1;
+    }
+    (text.into_bytes(), lines)
+}

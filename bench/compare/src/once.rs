@@ -1,0 +1,95 @@
+//! One kind of call, so many times, on one side alone: for counting its
+//! instructions. All that is made beforehand is the same for any number of
+//! calls, so that a run with none can be taken off.
+
+use crate::cases::{text, with_edges, Series};
+use crate::side::Side;
+use std::hint::black_box;
+use tuned::{RACK_BYTES, RECORD_SPACE};
+
+/// Makes the calls and gives how many calls, or changes of runs, they were.
+/// The size is the edges of an audit's rack, or else the vertices.
+pub fn once(side: Side, kind: &str, size: usize, calls: usize) -> Result<usize, String> {
+    match kind {
+        "audit" => Ok(audits(side, size, calls)),
+        "direct" => direct(side, size, calls),
+        "before" => before(side, size, calls),
+        "series" => series(side, size, calls),
+        "run" => runs(side, size, calls),
+        _ => Err(format!("no such kind: {kind}")),
+    }
+}
+
+/// The calls alone, in a function by whose name a tool can find them.
+#[inline(never)]
+fn measured(calls: impl FnOnce()) {
+    calls();
+}
+
+fn audits(side: Side, edges: usize, calls: usize) -> usize {
+    let rack = with_edges(edges);
+    measured(|| {
+        for _ in 0..calls {
+            assert!(side.audit(black_box(&rack)), "a sound rack");
+        }
+    });
+    calls
+}
+
+fn direct(side: Side, n: usize, calls: usize) -> Result<usize, String> {
+    let mut series = Series::of(n);
+    let mut racks = std::mem::take(&mut series.racks);
+    if calls > racks.len() {
+        return Err(format!("at most {} direct changes", racks.len()));
+    }
+    measured(|| {
+        for (rack, place) in &mut racks[..calls] {
+            let change = &series.changes[*place];
+            black_box(side.change(rack, change, series.words(change)));
+        }
+    });
+    Ok(calls)
+}
+
+/// The audits of the racks that the direct changes are made on: what such a
+/// change spends before its first move.
+fn before(side: Side, n: usize, calls: usize) -> Result<usize, String> {
+    let series = Series::of(n);
+    if calls > series.racks.len() {
+        return Err(format!("at most {} racks", series.racks.len()));
+    }
+    measured(|| {
+        for (rack, _) in &series.racks[..calls] {
+            assert!(side.audit(black_box(rack)), "a sound rack");
+        }
+    });
+    Ok(calls)
+}
+
+fn series(side: Side, n: usize, calls: usize) -> Result<usize, String> {
+    let series = Series::of(n);
+    if calls > series.changes.len() {
+        return Err(format!("at most {} changes", series.changes.len()));
+    }
+    let mut rack = series.start();
+    measured(|| {
+        for change in &series.changes[..calls] {
+            black_box(side.change(&mut rack, change, series.words(change)));
+        }
+    });
+    Ok(calls)
+}
+
+fn runs(side: Side, n: usize, calls: usize) -> Result<usize, String> {
+    let (text, changes) = text(&Series::of(n));
+    let mut rack = [0; RACK_BYTES];
+    let mut space = vec![0; RECORD_SPACE];
+    let run = side.run(&mut rack, &text, &mut space);
+    run.ok_or("this side has no run")?;
+    measured(|| {
+        for _ in 0..calls {
+            black_box(side.run(&mut rack, black_box(&text), &mut space));
+        }
+    });
+    Ok(calls * changes)
+}

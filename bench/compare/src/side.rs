@@ -1,0 +1,64 @@
+//! The programs that are measured.
+
+use tuned::RackBytes;
+
+/// The proved core, the tuned program, or the tuned program without the audit
+/// that stands before each change.
+#[derive(Clone, Copy, Debug, PartialEq, Eq)]
+pub enum Side {
+    Core,
+    Tuned,
+    Bare,
+}
+
+impl Side {
+    pub fn named(name: &str) -> Option<Side> {
+        match name {
+            "core" => Some(Side::Core),
+            "tuned" => Some(Side::Tuned),
+            "bare" => Some(Side::Bare),
+            _ => None,
+        }
+    }
+
+    /// The audit's word.
+    pub fn audit(self, rack: &RackBytes) -> bool {
+        match self {
+            Side::Core => pairing::audit(rack) == (0, 1),
+            _ => tuned::audit(rack),
+        }
+    }
+
+    /// A change's number and figures.
+    pub fn change(self, rack: &mut RackBytes, change: &Change, words: &[u32]) -> [u32; 4] {
+        let &Change { code, a, b, .. } = change;
+        if self == Side::Core {
+            let answer = pairing::change(rack, code, a, b, words);
+            return [answer.number, answer.draws, answer.falls, answer.pairs];
+        }
+        let answer = match self {
+            Side::Bare => tuned::change_sound(rack, code, a, b, words),
+            _ => tuned::change(rack, code, a, b, words),
+        };
+        [answer.number, answer.draws, answer.falls, answer.pairs]
+    }
+
+    /// A run's number and the length of its record; none from the core, which
+    /// doesn't export it yet.
+    pub fn run(self, rack: &mut RackBytes, text: &[u8], space: &mut [u8]) -> Option<(u32, usize)> {
+        if self == Side::Core {
+            return None;
+        }
+        let outcome = tuned::run(rack, text, space);
+        Some((outcome.number, outcome.length))
+    }
+}
+
+/// A change, with the place of its words in the common store.
+#[derive(Clone, Copy)]
+pub struct Change {
+    pub code: u32,
+    pub a: u32,
+    pub b: u32,
+    pub words_at: usize,
+}

@@ -1,0 +1,76 @@
+//! Running a trace text to a record.
+
+use crate::change::{allowed, play, Answer};
+use crate::layout::{make, RackBytes};
+use crate::record::Record;
+use crate::text::{self, Step, Trace};
+
+/// The most bytes of a trace text, and the least of a record space.
+pub const TEXT_LIMIT: usize = 16_384;
+pub const RECORD_SPACE: usize = 65_536;
+
+/// The answer of a run: 0 and the record's length, or the number that turns it
+/// back, with its line if that is 4.
+#[derive(Clone, Copy, Debug, Default, PartialEq, Eq)]
+pub struct Outcome {
+    pub number: u32,
+    pub line: usize,
+    pub length: usize,
+}
+
+/// Runs a text. Turned back, it writes nothing; otherwise the rack holds the
+/// last state and the record stands at the start of its space. No change
+/// within a run is audited: the rack is made here and stays sound.
+pub fn run(rack: &mut RackBytes, text: &[u8], space: &mut [u8]) -> Outcome {
+    let trace = match wanted(text, space.len()) {
+        Ok(trace) => trace,
+        Err((number, line)) => {
+            return Outcome {
+                number,
+                line,
+                length: 0,
+            }
+        }
+    };
+    make(rack, trace.vertices as u16);
+    let mut record = Record::start(space);
+    record.put(trace.first_line);
+    let mut pairs = 0;
+    for step in &trace.steps {
+        let answer = one(rack, step, &mut pairs);
+        record.answer(&answer);
+    }
+    record.ending(rack, pairs);
+    Outcome {
+        number: 0,
+        line: 0,
+        length: record.length,
+    }
+}
+
+/// Numbers 2 to 5, first fit first, with the line of 4; otherwise the trace.
+fn wanted(text: &[u8], space: usize) -> Result<Trace<'_>, (u32, usize)> {
+    if text.len() > TEXT_LIMIT {
+        return Err((2, 0));
+    }
+    if space < RECORD_SPACE {
+        return Err((3, 0));
+    }
+    let trace = text::read(text).map_err(|line| (4, line))?;
+    if !(1..=256).contains(&trace.vertices) {
+        return Err((5, 0));
+    }
+    Ok(trace)
+}
+
+/// One change of a run; the pairs held are kept from change to change.
+fn one(rack: &mut RackBytes, step: &Step, pairs: &mut u32) -> Answer {
+    match allowed(rack, step.code, step.a, step.b, step.words as usize) {
+        Err(number) => Answer::refused(number),
+        Ok(ends) => {
+            let tally = play(rack, step.code, ends, step.drawn, *pairs);
+            *pairs = tally.pairs;
+            Answer::accepted(tally)
+        }
+    }
+}

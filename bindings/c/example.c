@@ -1,0 +1,83 @@
+/*
+ * The worked example of document 01 by the calls of the core: five changes on a rack of 4 boards, then all levels, mates and links, and the
+ * audit. It prints what example.out holds.
+ */
+#include <inttypes.h>
+#include <stdio.h>
+
+#include "pairing.h"
+
+#define BOARDS 4
+
+static uint8_t rack[PAIRING_RACK_BYTES];
+
+static void change(uint32_t code, uint32_t a, uint32_t b)
+{
+    const uint32_t words[] = {0, 0};
+    uint32_t draws, falls, pairs;
+    uint32_t number = pairing_change(rack, sizeof rack, code, a, b, words, 2, &draws, &falls, &pairs);
+
+    printf("%s %" PRIu32 "-%" PRIu32 ": ", code == PAIRING_ADD ? "add" : "drop", a, b);
+    if (number == PAIRING_OK)
+        printf("draws %" PRIu32 ", falls %" PRIu32 ", pairs %" PRIu32 "\n", draws, falls, pairs);
+    else
+        printf("refused %" PRIu32 "\n", number);
+}
+
+static void board(uint32_t v)
+{
+    int32_t level;
+    uint32_t mate;
+    uint32_t number = pairing_level(rack, sizeof rack, v, &level);
+
+    if (number == PAIRING_OK)
+        number = pairing_mate(rack, sizeof rack, v, &mate);
+    if (number != PAIRING_OK)
+        printf("board %" PRIu32 ": number %" PRIu32 "\n", v, number);
+    else if (mate == PAIRING_FREE)
+        printf("board %" PRIu32 ": level %" PRId32 ", idle\n", v, level);
+    else
+        printf("board %" PRIu32 ": level %" PRId32 ", mate %" PRIu32 "\n", v, level, mate);
+}
+
+static void links(void)
+{
+    uint32_t v, w, linked;
+
+    for (v = 0; v < BOARDS; v++)
+        for (w = v + 1; w < BOARDS; w++)
+            if (pairing_linked(rack, sizeof rack, v, w, &linked) == PAIRING_OK && linked == 1)
+                printf("link %" PRIu32 "-%" PRIu32 "\n", v, w);
+}
+
+static void audit(void)
+{
+    uint32_t yes;
+    uint32_t number = pairing_audit(rack, sizeof rack, &yes);
+
+    if (number == PAIRING_OK)
+        printf("audit: %s\n", yes == 1 ? "yes" : "no");
+    else
+        printf("audit: number %" PRIu32 "\n", number);
+}
+
+int main(void)
+{
+    uint32_t v;
+
+    audit();
+    printf("make: number %" PRIu32 "\n", pairing_make(rack, sizeof rack, BOARDS));
+    change(PAIRING_ADD, 0, 1);
+    change(PAIRING_ADD, 1, 2);
+    change(PAIRING_ADD, 2, 3);
+    change(PAIRING_DROP, 0, 1);
+    change(PAIRING_ADD, 2, 3);
+    for (v = 0; v <= BOARDS; v++)
+        board(v);
+    links();
+    audit();
+    rack[4] = 1;
+    audit();
+    board(0);
+    return 0;
+}

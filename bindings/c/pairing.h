@@ -1,0 +1,87 @@
+/*
+ * The pairing core: a fully dynamic maximal matching on up to 256 vertices, kept in 9,992 bytes that the caller lends.
+ *
+ * Document 01 calls a vertex a board, an edge a link, and the bytes a rack; a vertex without a mate is free ("idle").
+ *
+ * Every function gives a number: 0 if it ran, or the first reason that fits for which it was turned back. Turned back, it writes nothing
+ * lent, and every other figure is 0. All figures are written at each call. No pointer may be null, and what is lent to one call may not
+ * overlap. A length is in elements: bytes of the rack, or words.
+ */
+#ifndef PAIRING_H
+#define PAIRING_H
+
+#include <stddef.h>
+#include <stdint.h>
+
+#ifdef __cplusplus
+extern "C" {
+#endif
+
+/* The length of a rack in bytes; any alignment will do. */
+#define PAIRING_RACK_BYTES 9992
+
+/* The most vertices. */
+#define PAIRING_MOST_VERTICES 256
+
+/* The mate of a free vertex. */
+#define PAIRING_FREE 65535
+
+/* The change codes. */
+#define PAIRING_ADD 1
+#define PAIRING_DROP 2
+
+/* The numbers. 2 to 4 are met only by the running of a trace text. */
+#define PAIRING_OK 0
+#define PAIRING_BAD_LENGTH 1       /* The rack buffer isn't 9,992 bytes. */
+#define PAIRING_BAD_VERTEX_COUNT 5 /* The number of vertices asked for isn't 1 to 256. */
+#define PAIRING_UNSOUND 6          /* The rack isn't sound. */
+#define PAIRING_BAD_CODE 7         /* The change code is neither 1 nor 2. */
+#define PAIRING_NO_VERTEX 8        /* A vertex named is n or more. */
+#define PAIRING_SAME_VERTEX 9      /* The two vertices named are the same. */
+#define PAIRING_EDGE_PRESENT 10    /* An edge to add is there already. */
+#define PAIRING_EDGE_ABSENT 11     /* An edge to drop isn't there. */
+#define PAIRING_TOO_FEW_WORDS 12   /* Fewer words are lent than n div 2. */
+
+/*
+ * Makes the buffer a rack of n vertices without edges. Its bytes may hold anything before.
+ * Numbers: 0, 1, 5.
+ */
+uint32_t pairing_make(uint8_t *rack, size_t len, uint32_t n);
+
+/*
+ * Whether the bytes are a sound rack: *yes is 1 or 0.
+ * Numbers: 0, 1.
+ */
+uint32_t pairing_audit(const uint8_t *rack, size_t len, uint32_t *yes);
+
+/*
+ * The level of vertex v, -1 to 3.
+ * Numbers: 0, 1, 6, 8.
+ */
+uint32_t pairing_level(const uint8_t *rack, size_t len, uint32_t v, int32_t *level);
+
+/*
+ * The mate of vertex v, PAIRING_FREE if it has none.
+ * Numbers: 0, 1, 6, 8.
+ */
+uint32_t pairing_mate(const uint8_t *rack, size_t len, uint32_t v, uint32_t *mate);
+
+/*
+ * Whether there is an edge v-w: *linked is 1 or 0.
+ * Numbers: 0, 1, 6, 8, 9.
+ */
+uint32_t pairing_linked(const uint8_t *rack, size_t len, uint32_t v, uint32_t w, uint32_t *linked);
+
+/*
+ * Adds (code 1) or drops (code 2) the edge a-b and mends the matching. The words decide which neighbours are drawn; at least n div 2 of them
+ * must be lent, of which the first *draws are used. *falls is the number of moves down by one level, *pairs the number of pairs then held.
+ * Numbers: 0, 1, 6 to 12.
+ */
+uint32_t pairing_change(uint8_t *rack, size_t len, uint32_t code, uint32_t a, uint32_t b, const uint32_t *words, size_t count, uint32_t *draws,
+                        uint32_t *falls, uint32_t *pairs);
+
+#ifdef __cplusplus
+}
+#endif
+
+#endif

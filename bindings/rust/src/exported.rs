@@ -1,0 +1,28 @@
+//! The functions of the static library as they stand in `bindings/c/pairing.h`:
+//! a slice is a pointer and its length in elements, a figure is a pointer to
+//! where it goes, and the result is the number.
+
+extern "C" {
+    pub fn pairing_make(rack: *mut u8, len: usize, n: u32) -> u32;
+
+    pub fn pairing_audit(rack: *const u8, len: usize, yes: *mut u32) -> u32;
+
+    pub fn pairing_level(rack: *const u8, len: usize, v: u32, level: *mut i32) -> u32;
+
+    pub fn pairing_mate(rack: *const u8, len: usize, v: u32, mate: *mut u32) -> u32;
+
+    pub fn pairing_linked(rack: *const u8, len: usize, v: u32, w: u32, linked: *mut u32) -> u32;
+
+    pub fn pairing_change(
+        rack: *mut u8,
+        len: usize,
+        code: u32,
+        a: u32,
+        b: u32,
+        words: *const u32,
+        count: usize,
+        draws: *mut u32,
+        falls: *mut u32,
+        pairs: *mut u32,
+    ) -> u32;
+}

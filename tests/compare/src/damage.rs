@@ -1,0 +1,180 @@
+//! Damage to the bytes of a rack, field by field, and such that only one thing
+//! is amiss.
+
+use reference::checks::random::Random;
+use reference::Rack;
+
+/// What is damaged: a field of the bytes, or the rack that they tell of.
+#[derive(Clone, Copy, Debug, PartialEq, Eq)]
+pub enum Damage {
+    Header,
+    Spare,
+    Ranks,
+    Mates,
+    Counts,
+    Rows,
+    Past,
+    Sly,
+    Model,
+}
+
+pub const DAMAGES: [(&str, Damage); 9] = [
+    ("header", Damage::Header),
+    ("spare bytes", Damage::Spare),
+    ("levels", Damage::Ranks),
+    ("mates", Damage::Mates),
+    ("counts", Damage::Counts),
+    ("rows", Damage::Rows),
+    ("entries past n", Damage::Past),
+    ("two fields that agree", Damage::Sly),
+    ("levels, mates, owners with right counts", Damage::Model),
+];
+
+/// The bytes of a rack with damage of one kind. At times the damage comes to
+/// nothing, and at times the rack is still sound.
+pub fn damaged(random: &mut Random, rack: &Rack, damage: Damage) -> Vec<u8> {
+    if damage == Damage::Model {
+        let mut rack = rack.clone();
+        for _ in 0..random.between(1, 2) {
+            damage_model(random, &mut rack);
+        }
+        return rack.to_bytes();
+    }
+    let mut bytes = rack.to_bytes();
+    if damage == Damage::Sly {
+        sly(random, &mut bytes, rack);
+    } else {
+        let at = field(random, rack.n, damage);
+        damage_byte(random, &mut bytes[at]);
+    }
+    bytes
+}
+
+/// A byte of a field. Those of the fields of vertices belong to a vertex of
+/// the rack, those past n to no vertex.
+fn field(random: &mut Random, n: usize, damage: Damage) -> usize {
+    let v = random.below(n);
+    match damage {
+        Damage::Header => random.below(4),
+        Damage::Spare => 4 + random.below(4),
+        Damage::Ranks => 8 + v,
+        Damage::Mates => 264 + 2 * v + random.below(2),
+        Damage::Counts => 776 + 4 * v + random.below(4),
+        Damage::Rows => 1_800 + 32 * v + random.below(n) / 8,
+        _ => past(random, n),
+    }
+}
+
+/// A byte past the n entries of a field; of the spare bytes if n is 256.
+fn past(random: &mut Random, n: usize) -> usize {
+    if n == 256 {
+        return 4 + random.below(4);
+    }
+    let v = if random.percent(30) {
+        n
+    } else {
+        random.between(n, 255)
+    };
+    match random.below(5) {
+        0 => 8 + v,
+        1 => 264 + 2 * v + random.below(2),
+        2 => 776 + 4 * v + random.below(4),
+        3 => 1_800 + 32 * v + random.below(32),
+        _ => 1_800 + 32 * random.below(n) + v / 8,
+    }
+}
+
+/// One bit turned, one up, one down, a small number or any.
+fn damage_byte(random: &mut Random, byte: &mut u8) {
+    *byte = match random.below(6) {
+        0 => byte.wrapping_add(1),
+        1 => byte.wrapping_sub(1),
+        2 => random.below(6) as u8,
+        3 => random.bits() as u8,
+        _ => *byte ^ (1 << random.below(8)),
+    };
+}
+
+/// Damage after which the edge number and the counts are still right.
+fn damage_model(random: &mut Random, rack: &mut Rack) {
+    let (v, w) = (random.below(rack.n), random.below(rack.n));
+    match random.below(7) {
+        0 => rack.level[v] = random.below(5) as i32 - 1,
+        1 => rack.mate[v] = Some(w),
+        2 => rack.mate[v] = None,
+        3 => change_owner(random, rack),
+        4 => rack.owner[v][w] = !rack.owner[v][w] && !rack.owner[w][v] && v != w,
+        5 => {
+            // Two vertices become mates, linked or not, on one level or not.
+            rack.mate[v] = Some(w);
+            rack.mate[w] = Some(v);
+        }
+        _ => {
+            let level = random.below(5) as i32 - 1;
+            for end in [v, rack.mate[v].unwrap_or(v)] {
+                rack.level[end] = level;
+            }
+            owners_by_level(rack);
+        }
+    }
+}
+
+/// An edge goes to its other end.
+fn change_owner(random: &mut Random, rack: &mut Rack) {
+    let v = random.below(rack.n);
+    let neighbours = rack.neighbours_below(v, 4);
+    if !neighbours.is_empty() {
+        let w = random.pick(&neighbours);
+        let owned = rack.owner[v][w];
+        rack.owner[v][w] = !owned;
+        rack.owner[w][v] = owned;
+    }
+}
+
+fn owners_by_level(rack: &mut Rack) {
+    for v in 0..rack.n {
+        for w in 0..rack.n {
+            if rack.owner[v][w] && rack.level[v] < rack.level[w] {
+                rack.owner[v][w] = false;
+                rack.owner[w][v] = true;
+            }
+        }
+    }
+}
+
+/// One more bit in a row, with an edge number, and at times counts, that go
+/// with it: a second owner, a vertex's own bit, a vertex past n, or an edge
+/// that may be one too many.
+fn sly(random: &mut Random, bytes: &mut [u8], rack: &Rack) {
+    let v = random.below(rack.n);
+    let neighbours = rack.neighbours_below(v, 4);
+    let w = match random.below(4) {
+        0 => v,
+        1 if rack.n < 256 => random.between(rack.n, 255),
+        2 => random.below(rack.n),
+        _ if neighbours.is_empty() => v,
+        _ => random.pick(&neighbours),
+    };
+    let (v, w) = if owns(rack, v, w) { (w, v) } else { (v, w) };
+    bytes[1_800 + 32 * v + w / 8] |= 1 << (w % 8);
+    let edges = u16::from_le_bytes([bytes[2], bytes[3]]);
+    let edges = edges.wrapping_add(random.pick(&[0, 1, 1, 1]));
+    bytes[2..4].copy_from_slice(&edges.to_le_bytes());
+    let above = bytes[8 + v].max(bytes[8 + w]);
+    let ends = match random.below(3) {
+        0 => vec![],
+        1 => vec![v],
+        _ => vec![v, w],
+    };
+    for end in ends {
+        for j in usize::from(above)..4 {
+            let count = &mut bytes[776 + 4 * end + j];
+            *count = count.wrapping_add(1);
+        }
+    }
+}
+
+/// Whether v owns v-w; no vertex past n is owned.
+fn owns(rack: &Rack, v: usize, w: usize) -> bool {
+    w < rack.n && rack.owner[v][w]
+}

@@ -1,0 +1,77 @@
+//! Racks to try calls on: of all sizes, reached by changes, sound at random,
+//! and as dense as can be.
+
+use crate::asked::Asked;
+use reference::calls::change_rack;
+use reference::checks::makers::{drawn, sound_rack};
+use reference::checks::random::Random;
+use reference::Rack;
+
+/// How a rack came about.
+#[derive(Clone, Copy, Debug, PartialEq, Eq)]
+pub enum Kind {
+    Reached,
+    Random,
+    Dense,
+}
+
+/// A number of vertices: mostly few, since the plain program is slow, but any
+/// from 1 to 256 may come.
+pub fn size(random: &mut Random) -> usize {
+    match random.below(400) {
+        0 => 256,
+        1 => random.between(65, 255),
+        2..=11 => random.between(17, 64),
+        _ => random.between(1, 16),
+    }
+}
+
+/// A rack of n vertices of one kind.
+pub fn rack(random: &mut Random, n: usize, kind: Kind) -> Rack {
+    match kind {
+        Kind::Reached => reached(random, n),
+        Kind::Random => sound_rack(random, n),
+        Kind::Dense => dense(random, n),
+    }
+}
+
+/// The rack after a random list of changes from an empty one, mostly adds.
+fn reached(random: &mut Random, n: usize) -> Rack {
+    let mut rack = Rack::empty(n);
+    let most = (n * n / 4).clamp(3, 400);
+    for _ in 0..random.between(0, most) {
+        let asked = Asked::any(random, &rack, 80);
+        change_rack(&mut rack, asked.code, asked.a, asked.b, &asked.words);
+    }
+    rack
+}
+
+/// A rack in which nearly all vertices are mated at level 3 and nearly all
+/// edges are there, each with either end as its owner. Vertices left free have
+/// edges to mated ones only.
+fn dense(random: &mut Random, n: usize) -> Rack {
+    let mut order: Vec<usize> = (0..n).collect();
+    random.shuffle(&mut order);
+    let free = if random.percent(50) {
+        0
+    } else {
+        random.below(n) / 8
+    };
+    let mated = (n - free) / 2 * 2;
+    let pairs: Vec<(usize, usize, i32)> = order[..mated]
+        .chunks(2)
+        .map(|two| (two[0], two[1], 3))
+        .collect();
+    let share = random.pick(&[90, 99, 100]);
+    let mut edges = Vec::new();
+    for (k, &v) in order[..mated].iter().enumerate() {
+        for (l, &w) in order.iter().enumerate().skip(k + 1) {
+            let pair = k % 2 == 0 && l == k + 1;
+            if pair || random.percent(share) {
+                let owner = l >= mated || random.percent(50);
+                edges.push(if owner { (v, w) } else { (w, v) });
+            }
+        }
+    }
+    drawn(n, &pairs, &edges)
+}
