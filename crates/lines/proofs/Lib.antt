@@ -1,0 +1,3 @@
+-- Laws of the lines of a trace.
+pub mod Laws
+pub mod Words

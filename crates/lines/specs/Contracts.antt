@@ -1,0 +1,43 @@
+-- What the readers of `src/` must answer, by cases on the answer. Assumes nothing.
+use mathlib.Core.List.{List}
+use Prim.Native.Nat.{ℕ, _≤_}
+use lib.ListN.{take}
+use Rattle.model.specs.Change.{Change}
+use Rattle.model.specs.Trace.{rackLine, codeText, changeLine, LineChange}
+use Rattle.text.specs.Reading.{Found, Absent}
+use Rattle.lines.specs.Pieces.{IsCode, endsText, FitEnds, drawsText, Fit, FitWords}
+use Rattle.lines.specs.declared.RackRead.{RackRead}
+use Rattle.lines.specs.declared.RackRead.the-variants.{Rack, NoRack}
+use Rattle.lines.specs.declared.CodeRead.{CodeRead}
+use Rattle.lines.specs.declared.CodeRead.the-variants.{Code, NoCode}
+use Rattle.lines.specs.declared.EndsRead.{EndsRead}
+use Rattle.lines.specs.declared.EndsRead.the-variants.{Pair, NoPair}
+use Rattle.lines.specs.declared.WordsRead.{WordsRead}
+use Rattle.lines.specs.declared.WordsRead.the-variants.{Words, NoWords}
+use Rattle.lines.specs.declared.ChangeRead.{ChangeRead}
+use Rattle.lines.specs.declared.ChangeRead.the-variants.{Line, NoLine}
+
+abbrev pub RackAt : List ℕ → ℕ → RackRead → Type 0
+RackAt s at (Rack n next) = Found rackLine Fit s at n next
+RackAt s at NoRack = Absent rackLine Fit s at
+
+abbrev pub CodeAt : List ℕ → ℕ → CodeRead → Type 0
+CodeAt s at (Code code next) = Found codeText IsCode s at code next
+CodeAt s at NoCode = Absent codeText IsCode s at
+
+abbrev pub EndsAt : List ℕ → ℕ → EndsRead → Type 0
+EndsAt s at (Pair a b next) = Found endsText FitEnds s at (record { a = a; b = b }) next
+EndsAt s at NoPair = Absent endsText FitEnds s at
+
+-- the words stand in the first count places of `words`
+abbrev pub WordsAt : List ℕ → ℕ → List ℕ → WordsRead → Type 0
+WordsAt s at words (Words count next) = (count ≤ 128) × Found drawsText FitWords s at (take count words) next
+WordsAt s at words NoWords = Absent drawsText FitWords s at
+
+-- the change whose line was read
+abbrev pub read : ℕ → ℕ → ℕ → ℕ → List ℕ → Change
+read code a b count words = record { code = code; a = a; b = b; words = take count words }
+
+abbrev pub ChangeAt : List ℕ → ℕ → List ℕ → ChangeRead → Type 0
+ChangeAt s at words (Line code a b count next) = (count ≤ 128) × Found changeLine LineChange s at (read code a b count words) next
+ChangeAt s at words NoLine = Absent changeLine LineChange s at

@@ -1,0 +1,75 @@
+-- Laws of the lines of a record: how long they are, of which pieces they are made, and that those of `model` are these. Assumes nothing.
+use Prim.Native.Nat.{ℕ, _+_, _-_, _≤_}
+use mathlib.Core.Path.{_≡_, refl, subst}
+use mathlib.Core.Logic.{_≢_}
+use mathlib.Core.List.{List, _++_, append-assoc}
+use native.Mathlib.Omega.{arith}
+use lib.ListN.{length, length-append}
+use Rattle.model.specs.Text.{bytes, decimal, largest}
+use Rattle.model.specs.State.{State, pairs}
+use Rattle.model.specs.Change.{Answer}
+use Rattle.model.specs.Record.{answerLine, pairLine, endLine}
+use Rattle.text.specs.Writing.{Put}
+use Rattle.text.proofs.Lengths.{one-most, three-most}
+use Rattle.text.proofs.Answers.{done-line, refused-line}
+use Rattle.record.specs.Line.{fieldText, oneText, threeText, pairText, endText}
+
+-- Pieces.
+
+pub field-length : (p : List ℕ) (x : ℕ) → length (fieldText p x) ≡ length p + length (decimal x)
+unfolding fieldText
+field-length p x = length-append p (decimal x)
+
+pub one-parts : (p : List ℕ) (x : ℕ) (e : List ℕ) → fieldText p x ++ e ≡ oneText p x e
+unfolding fieldText oneText
+one-parts p x e = append-assoc p (decimal x) e
+
+pub one-length : (p : List ℕ) (x : ℕ) (e : List ℕ) → length (oneText p x e) ≡ length (fieldText p x) + length e
+unfolding fieldText oneText
+one-length p x e = simp length-append (omega arith)
+
+pub three-parts : (p : List ℕ) (x : ℕ) (q : List ℕ) (y : ℕ) (r : List ℕ) (z : ℕ) (e : List ℕ)
+    → (fieldText p x ++ fieldText q y) ++ oneText r z e ≡ threeText p x q y r z e
+unfolding fieldText oneText threeText
+three-parts p x q y r z e = simp append-assoc
+
+pub three-length : (p : List ℕ) (x : ℕ) (q : List ℕ) (y : ℕ) (r : List ℕ) (z : ℕ) (e : List ℕ)
+    → length (threeText p x q y r z e) ≡ length (fieldText p x) + length (fieldText q y) + length (oneText r z e)
+unfolding fieldText oneText threeText
+three-length p x q y r z e = simp length-append (omega arith)
+
+-- The room that a line needs.
+
+pub one-room : (p : List ℕ) (x : ℕ) (e : List ℕ) → x ≤ largest → length (oneText p x e) ≤ length p + length e + 10
+unfolding oneText
+one-room p x e h = one-most p x e h
+
+pub three-room : (p : List ℕ) (x : ℕ) (q : List ℕ) (y : ℕ) (r : List ℕ) (z : ℕ) (e : List ℕ) → x ≤ largest → y ≤ largest → z ≤ largest
+    → length (threeText p x q y r z e) ≤ length p + length q + length r + length e + 30
+unfolding threeText
+three-room p x q y r z e h k l = three-most p x q y r z e h k l
+
+-- A line that was written, said of equal figures.
+
+pub put-three-as : (p : List ℕ) (x : ℕ) (q : List ℕ) (y : ℕ) (r : List ℕ) (z : ℕ) (e old new : List ℕ) (k : ℕ) → Put (threeText p x q y r z e) old new k
+    → (x′ y′ z′ : ℕ) → x ≡ x′ → y ≡ y′ → z ≡ z′ → Put (threeText p x′ q y′ r z′ e) old new k
+put-three-as p x q y r z e old new k w x′ y′ z′ h i j = subst (λ (l : List ℕ). Put l old new k) (λ t. threeText p (h t) q (i t) r (j t) e) w
+
+-- The lines of `model`.
+
+pub answer-done : (x : Answer) → x .number ≡ 0
+    → answerLine x ≡ threeText (bytes "(done (draws ") (x .draws) (bytes ") (falls ") (x .falls) (bytes ") (pairs ") (x .pairs) (bytes "))\n")
+unfolding threeText
+answer-done x h = done-line x h
+
+pub answer-refused : (x : Answer) → x .number ≢ 0 → answerLine x ≡ oneText (bytes "(refused ") (x .number) (bytes ")\n")
+unfolding oneText
+answer-refused x h = refused-line x h
+
+pub pair-line : (s : State) (v : ℕ) → pairLine s v ≡ pairText v (s .mate v) (s .rank v - 1)
+unfolding pairLine threeText
+pair-line s v = refl
+
+pub end-line : (s : State) → endLine s ≡ endText (pairs s)
+unfolding endLine oneText
+end-line s = refl

@@ -1,0 +1,2 @@
+-- Laws of the lines of a record.
+pub mod Laws

@@ -1,0 +1,2 @@
+-- The lines of a record by their figures, where `model` gives them by a state.
+pub mod Line

@@ -1,0 +1,38 @@
+-- The lines of a record by their figures. That a state's lines in `model` are these is a law (proofs/Laws.antt). Assumes nothing.
+use mathlib.Core.List.{List, _++_}
+use Prim.Native.Nat.{ℕ}
+use Rattle.model.specs.Text.{bytes, decimal}
+use Rattle.model.specs.Change.{Answer}
+
+-- how many bytes a printer is lent at least: no answer's line, pair's line and end line of figures of 32 bits is longer
+abbrev pub answerRoom : ℕ
+answerRoom = 64
+
+abbrev pub pairRoom : ℕ
+pairRoom = 50
+
+abbrev pub endRoom : ℕ
+endRoom = 25
+
+-- a fixed text, and a number straight after it
+unfoldable pub fieldText : List ℕ → ℕ → List ℕ
+fieldText p x = p ++ decimal x
+
+-- a line of one figure, and one of three
+unfoldable pub oneText : List ℕ → ℕ → List ℕ → List ℕ
+oneText p x e = p ++ (decimal x ++ e)
+
+unfoldable pub threeText : List ℕ → ℕ → List ℕ → ℕ → List ℕ → ℕ → List ℕ → List ℕ
+threeText p x q y r z e = p ++ (decimal x ++ (q ++ (decimal y ++ (r ++ (decimal z ++ e)))))
+
+-- an answer by its figures
+abbrev pub answered : ℕ → ℕ → ℕ → ℕ → Answer
+answered number draws falls pairs = record { number = number; draws = draws; falls = falls; pairs = pairs }
+
+-- "A pair's line is `(pair (A B) (level L))`, A the lower board and L their level."
+abbrev pub pairText : ℕ → ℕ → ℕ → List ℕ
+pairText a b level = threeText (bytes "(pair (") a (bytes " ") b (bytes ") (level ") level (bytes "))\n")
+
+-- "The end line is `(end (pairs P))`, P the pairs then held."
+abbrev pub endText : ℕ → List ℕ
+endText pairs = oneText (bytes "(end (pairs ") pairs (bytes "))\n")

@@ -1,0 +1,7 @@
+-- Laws of numbers and fixed texts, for the proofs of this crate and of those that read and print lines.
+pub mod Decimals
+pub mod Standing
+pub mod Over
+pub mod Texts
+pub mod Lengths
+pub mod Answers

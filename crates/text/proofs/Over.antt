@@ -1,0 +1,100 @@
+-- Laws of `over`: its length, one byte more, one text after another, and a part of a list that was overwritten at its start.
+-- No contract cites this file. Assumes nothing.
+use Prim.Native.Nat.{ℕ, suc, _+_, _-_, _≤_, _<_}
+use mathlib.Core.Path.{_≡_, sym, ap, _∙_}
+use mathlib.Core.List.{List, [], _∷_, _++_, append-assoc, append-nil}
+use native.Mathlib.Omega.{arith}
+use native.Mathlib.Nat.{add-zero, zero-add}
+use lib.ListN.{length, getD, take, drop, set, length-append, length-take, length-drop, take-append-drop, drop-of-length-le}
+use lib.Seq.{drop-cons, drop-drop, set-at, take-at, drop-at, take-all}
+use Rattle.model.specs.Text.{over}
+use Rattle.text.specs.Writing.{Put}
+
+pub length-over : (at : ℕ) (p old : List ℕ) → at + length p ≤ length old → length (over at p old) ≡ length old
+unfolding over
+length-over at p old h = simp (length-append, length-take, length-drop) (omega arith)
+
+-- what stands before the end of p
+front-length : (at : ℕ) (p old : List ℕ) → at ≤ length old → length (take at old ++ p) ≡ at + length p
+front-length at p old h = simp (length-append, length-take) (omega arith)
+
+pub over-none : (at : ℕ) (old : List ℕ) → over at [] old ≡ old
+unfolding over
+over-none at old = ap (λ (k : ℕ). take at old ++ drop k old) (add-zero at) ∙ take-append-drop at old
+
+pub over-over : (at : ℕ) (p q old : List ℕ) → at + length p ≤ length old → over (at + length p) q (over at p old) ≡ over at (p ++ q) old
+unfolding over
+over-over at p q old h =
+    let n = at + length p in
+    let f = take at old ++ p in
+    let lf : length f ≡ n = front-length at p old (omega arith) in
+    let e : take at old ++ (p ++ drop n old) ≡ f ++ drop n old = sym (append-assoc (take at old) p (drop n old)) in
+    let m : n + length q ≡ at + length (p ++ q) = simp length-append (omega arith) in
+    ap (λ (l : List ℕ). take n l ++ (q ++ drop (n + length q) l)) e
+    ∙ ap (λ (l : List ℕ). l ++ (q ++ drop (n + length q) (f ++ drop n old))) (take-at f (drop n old) n lf)
+    ∙ ap (λ (l : List ℕ). f ++ (q ++ l)) (sym (drop-drop (length q) n (f ++ drop n old)) ∙ ap (drop (length q)) (drop-at f (drop n old) n lf) ∙ drop-drop (length q) n old)
+    ∙ append-assoc (take at old) p (q ++ drop (n + length q) old)
+    ∙ ap (λ (l : List ℕ). take at old ++ l) (sym (append-assoc p q (drop (n + length q) old)))
+    ∙ ap (λ (k : ℕ). take at old ++ ((p ++ q) ++ drop k old)) m
+
+-- one byte more, stored after p
+pub over-set : (at : ℕ) (p old : List ℕ) (b : ℕ) → at + length p < length old → set (over at p old) (at + length p) b ≡ over at (p ++ (b ∷ [])) old
+unfolding over
+over-set at p old b h =
+    let n = at + length p in
+    let f = take at old ++ p in
+    let lf : length f ≡ n = front-length at p old (omega arith) in
+    let m : suc n ≡ at + length (p ++ (b ∷ [])) = simp length-append (omega arith) in
+    ap (λ (l : List ℕ). set l n b) (sym (append-assoc (take at old) p (drop n old)) ∙ ap (λ (l : List ℕ). f ++ l) (drop-cons old n 0 h))
+    ∙ set-at f (getD old n 0) (drop (suc n) old) b n lf
+    ∙ append-assoc (take at old) p (b ∷ drop (suc n) old)
+    ∙ ap (λ (l : List ℕ). take at old ++ l) (sym (append-assoc p (b ∷ []) (drop (suc n) old)))
+    ∙ ap (λ (k : ℕ). take at old ++ ((p ++ (b ∷ [])) ++ drop k old)) m
+
+-- the first byte of all
+pub over-first : (old : List ℕ) (b : ℕ) → 0 < length old → set old 0 b ≡ over 0 (b ∷ []) old
+over-first old b h = ap (λ (l : List ℕ). set l 0 b) (sym (over-none 0 old)) ∙ over-set 0 [] old b h
+
+-- what was written at the start of the part from `at` on, said of the whole
+pub over-part : (at : ℕ) (p old : List ℕ) → take at old ++ over 0 p (drop at old) ≡ over at p old
+unfolding over
+over-part at p old = ap (λ (k : ℕ). take at old ++ (p ++ drop k (drop at old))) (zero-add (length p)) ∙ ap (λ (l : List ℕ). take at old ++ (p ++ l)) (drop-drop (length p) at old)
+
+-- A part that was lent on, `&mut w[n..]`, and came back.
+
+-- the part that is lent, and the whole with the part as it came back, as the borrow checker states them
+abbrev pub part : ℕ → List ℕ → List ℕ
+part n w = take (length w - n) (drop n w)
+
+abbrev pub back : ℕ → List ℕ → List ℕ → List ℕ
+back n w last = take n w ++ (last ++ drop (length w - n) (drop n w))
+
+pub part-is : (n : ℕ) (w : List ℕ) → part n w ≡ drop n w
+part-is n w = take-all (length w - n) (drop n w) (omega (arith, length-drop n w))
+
+pub length-part : (n : ℕ) (w : List ℕ) → length (part n w) ≡ length w - n
+length-part n w = ap length (part-is n w) ∙ length-drop n w
+
+-- what was written at the start of the part stands at n of the whole
+pub put-at : {p last : List ℕ} {k : ℕ} (n : ℕ) (w : List ℕ) → Put p (part n w) last k → back n w last ≡ over n p w
+put-at {p} {last} n w h =
+    let e : length (drop n w) ≤ length w - n = omega (arith, length-drop n w) in
+    ap (λ (l : List ℕ). take n w ++ (last ++ l)) (drop-of-length-le (drop n w) e)
+    ∙ ap (λ (l : List ℕ). take n w ++ l) (append-nil last ∙ h .wrote ∙ ap (over 0 p) (part-is n w))
+    ∙ over-part n p w
+
+-- a second writer is lent the part after what a first one wrote: together they wrote one text after the other
+pub put-then : {p q old w last : List ℕ} {n k : ℕ} → Put p old w n → Put q (part n w) last k → length p ≤ length old → Put (p ++ q) old (back n w last) (n + k)
+put-then {p} {q} {old} {w} {last} {n} {k} f g h =
+    let c : length (p ++ q) ≡ length p + length q = length-append p q in
+    record {
+      count = omega (arith, f .count, g .count);
+      wrote =
+          put-at n w g
+          ∙ ap (λ (l : List ℕ). over n q l) (f .wrote)
+          ∙ ap (λ (m : ℕ). over m q (over 0 p old)) (f .count ∙ sym (zero-add (length p)))
+          ∙ over-over 0 p q old (omega arith);
+    }
+
+pub put-length : {p old new : List ℕ} {r : ℕ} → Put p old new r → length p ≤ length old → length new ≡ length old
+put-length {p} {old} f h = ap length (f .wrote) ∙ length-over 0 p old (omega arith)

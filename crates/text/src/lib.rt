@@ -1,0 +1,100 @@
+// Numbers and fixed texts in bytes: each reader says what stands at a position of a text, each writer writes at the start of what it is
+// lent. A reader takes any position: past the end nothing stands.
+ghost use Prim.Native.Nat.{_≤_, _<_};
+ghost use lib.ListN.{length};
+ghost use Rattle.model.specs.Text.{decimal};
+ghost use Rattle.text.specs.Number.{NumberAt};
+ghost use Rattle.text.specs.Literal.{LiteralAt};
+ghost use Rattle.text.specs.Writing.{Put};
+
+// The number that stands there, and the position after it.
+pub enum Number {
+    Value(u32, usize),
+    NoNumber,
+}
+
+// The position after a fixed text that stands there.
+pub enum Literal {
+    Next(usize),
+    NoLiteral,
+}
+
+// "A number is in decimal digits, 0 to 4,294,967,295, no leading zero": reads digits up to a byte that is none.
+pub fn number_at(s: &[u8], at: usize) -> Number
+    ensures { λ r. ⌜ NumberAt (now (s .entry)) at r ⌝ }
+{
+    if s.len() <= at {
+        return Number::NoNumber;
+    }
+    let first = s[at];
+    if first < 48 {
+        return Number::NoNumber;
+    }
+    if 57 < first {
+        return Number::NoNumber;
+    }
+    let mut v = (first - 48) as u64;
+    let mut i = at + 1;
+    while i < s.len() {
+        let b = s[i];
+        if b < 48 {
+            return Number::Value(v as u32, i);
+        }
+        if 57 < b {
+            return Number::Value(v as u32, i);
+        }
+        if v == 0 {
+            return Number::NoNumber;
+        }
+        v = v * 10 + (b - 48) as u64;
+        if 4294967295 < v {
+            return Number::NoNumber;
+        }
+        i += 1;
+    }
+    Number::Value(v as u32, i)
+}
+
+// Reads the fixed text p. An empty one would stand even past the end, so none is asked for.
+pub fn literal_at(s: &[u8], at: usize, p: &[u8]) -> Literal
+    requires { ⌜ 0 < length (now p) ⌝ }
+    ensures { λ r. ⌜ LiteralAt (now (s .entry)) at (now (p .entry)) r ⌝ }
+{
+    if s.len() <= at {
+        return Literal::NoLiteral;
+    }
+    if s.len() - at < p.len() {
+        return Literal::NoLiteral;
+    }
+    let mut k = 0;
+    while k < p.len() {
+        if s[at + k] != p[k] {
+            return Literal::NoLiteral;
+        }
+        k += 1;
+    }
+    Literal::Next(at + k)
+}
+
+// Writes n in decimal, and answers how many bytes that is.
+pub fn put_number(out: &mut [u8], n: u32) -> usize
+    requires { ⌜ length (decimal n) ≤ length (now out) ⌝ }
+    ensures { λ r. ⌜ Put (decimal n) (now (out .entry)) (now (out .exit)) r ⌝ }
+{
+    if n < 10 {
+        out[0] = 48 + n as u8;
+        1
+    } else {
+        let k = put_number(out, n / 10);
+        out[k] = 48 + (n % 10) as u8;
+        k + 1
+    }
+}
+
+// Writes the fixed text p, and answers how many bytes that is.
+pub fn put_literal(out: &mut [u8], p: &[u8]) -> usize
+    requires { ⌜ length (now p) ≤ length (now out) ⌝ }
+    ensures { λ r. ⌜ Put (now (p .entry)) (now (out .entry)) (now (out .exit)) r ⌝ }
+{
+    bytes::copy(p, out)
+}

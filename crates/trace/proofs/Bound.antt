@@ -1,0 +1,96 @@
+-- The record fits its space: a trace text of at most 16,384 bytes has a record of at most 65,536. A change's line has at least 20 bytes, and
+-- the line that answers it at most 64 whatever 32-bit figures it has, which makes at most 52,428; 256 pairs' lines of 50 bytes, twice as
+-- many as there can be, and the end line make at most 12,825 more. Assumes nothing.
+use Prim.Native.Nat.{ℕ, _+_, _*_, _-_, _≤_, _<_}
+use mathlib.Core.Bool.{Bool}
+use mathlib.Core.List.{List, [], _∷_}
+use native.Mathlib.Omega.{arith}
+use native.Mathlib.Nat.{mul-suc}
+use lib.Dec.{T, ltb}
+use lib.ListN.{length, length-append}
+use Rattle.model.specs.Counting.{listed}
+use Rattle.model.specs.State.{Rules, State, pairs, empty}
+use Rattle.model.specs.Text.{bytes, largest}
+use Rattle.model.specs.Change.{Change, change}
+use Rattle.model.specs.Trace.{Trace, traceText, rackLine, changeLine}
+use Rattle.model.specs.Record.{answerLine, pairLine, endLine, pairLines, changesText, recordText}
+use Rattle.model.specs.Run.{longest, spaceLength}
+use Rattle.model.proofs.Counting.{count-bound}
+use Rattle.model.proofs.Lists.{listed-length, listed-all}
+use Rattle.text.proofs.Lengths.{one-most, three-most}
+use Rattle.text.proofs.Answers.{Figures, answer-most}
+use Rattle.text.proofs.Texts.{texts-least, texts-most}
+use Rattle.trace.proofs.Whole.{change-least}
+
+-- The space that a run needs.
+
+-- line 1, 64 bytes for each change, 50 for each vertex, and the end line
+pub space-enough : (t : Trace) → length (traceText t) ≤ longest → length (rackLine (t .n)) + 64 * length (t .changes) + 50 * 256 + 25 ≤ spaceLength
+unfolding traceText
+space-enough t short = omega (arith, simp length-append at short, texts-least changeLine 20 change-least (t .changes))
+
+-- The lines after the changes.
+
+-- what is printed of a state fits 32 bits
+pub record Small (s : State) : Type 0 where
+  pub few : s .n ≤ 256
+  pub mates : (v : ℕ) → v < s .n → s .mate v ≤ largest
+  pub ranks : (v : ℕ) → v < s .n → s .rank v ≤ largest
+
+pub pair-most : (s : State) (v : ℕ) → Small s → v < s .n → length (pairLine s v) ≤ 50
+unfolding pairLine
+pair-most s v h b =
+    let r : s .rank v - 1 ≤ largest = omega (arith, h .ranks v b) in
+    omega (arith, three-most (bytes "(pair (") v (bytes " ") (s .mate v) (bytes ") (level ") (s .rank v - 1) (bytes "))\n") (omega (arith, h .few)) (h .mates v b) r)
+
+pub pairs-most : (s : State) → Small s → length (pairLines s) ≤ 50 * 256
+unfolding pairLines
+pairs-most s h =
+    let p : ℕ → Bool = λ v. ltb v (s .mate v) in
+    omega (
+      arith,
+      texts-most (pairLine s) (λ (v : ℕ). (v < s .n) × T (p v)) 50 (λ v g. pair-most s v h (g .0)) (listed p (s .n)) (listed-all p (s .n)),
+      listed-length p (s .n),
+      count-bound p (s .n),
+      h .few,
+    )
+
+pub end-most : (s : State) → Small s → length (endLine s) ≤ 25
+unfolding endLine pairs
+end-most s h =
+    let c = count-bound (λ (v : ℕ). ltb v (s .mate v)) (s .n) in
+    omega (arith, one-most (bytes "(end (pairs ") (pairs s) (bytes "))\n") (omega (arith, h .few)))
+
+-- The whole.
+
+-- a property of states that changes keep, and that keeps the figures within 32 bits
+pub record Bounded (R : Rules) (Good : State → Type 0) : Type 0 where
+  pub keeps : (s : State) (c : Change) → Good s → Good (change R s c .state)
+  pub figures : (s : State) (c : Change) → Good s → Figures (change R s c .answer)
+  pub small : (s : State) → Good s → Small s
+
+module _ (R : Rules) (Good : State → Type 0) (bounded : Bounded R Good) where
+  pub changes-most : (s : State) (cs : List Change) → Good s → length (changesText R s cs) ≤ 64 * length cs + 50 * 256 + 25
+  unfolding changesText
+  changes-most s [] g =
+      let h = bounded .small s g in
+      omega (arith, length-append (pairLines s) (endLine s), pairs-most s h, end-most s h)
+  changes-most s (c ∷ cs) g =
+      let d = change R s c in
+      omega (
+        arith,
+        length-append (answerLine (d .answer)) (changesText R (d .state) cs),
+        answer-most (d .answer) (bounded .figures s c g),
+        changes-most (d .state) cs (bounded .keeps s c g),
+        mul-suc 64 (length cs),
+      )
+
+  pub record-fits : (t : Trace) → Good (empty (t .n)) → length (traceText t) ≤ longest → length (recordText R t) ≤ spaceLength
+  unfolding recordText
+  record-fits t g short =
+      omega (
+        arith,
+        space-enough t short,
+        length-append (rackLine (t .n)) (changesText R (empty (t .n)) (t .changes)),
+        changes-most (empty (t .n)) (t .changes) g,
+      )

@@ -1,0 +1,5 @@
+-- Laws of a whole trace: its lines, the one trace that a text holds, and that the record fits its space.
+pub mod Lines
+pub mod Whole
+pub mod Decide
+pub mod Bound

@@ -1,0 +1,2 @@
+-- What the reading of a whole trace must answer.
+pub mod Check
