@@ -15,10 +15,11 @@ pub enum Damage {
     Rows,
     Past,
     Sly,
+    Owner,
     Model,
 }
 
-pub const DAMAGES: [(&str, Damage); 9] = [
+pub const DAMAGES: [(&str, Damage); 10] = [
     ("header", Damage::Header),
     ("spare bytes", Damage::Spare),
     ("levels", Damage::Ranks),
@@ -27,6 +28,7 @@ pub const DAMAGES: [(&str, Damage); 9] = [
     ("rows", Damage::Rows),
     ("entries past n", Damage::Past),
     ("two fields that agree", Damage::Sly),
+    ("an owner, counted from its level", Damage::Owner),
     ("levels, mates, owners with right counts", Damage::Model),
 ];
 
@@ -41,11 +43,13 @@ pub fn damaged(random: &mut Random, rack: &Rack, damage: Damage) -> Vec<u8> {
         return rack.to_bytes();
     }
     let mut bytes = rack.to_bytes();
-    if damage == Damage::Sly {
-        sly(random, &mut bytes, rack);
-    } else {
-        let at = field(random, rack.n, damage);
-        damage_byte(random, &mut bytes[at]);
+    match damage {
+        Damage::Sly => sly(random, &mut bytes, rack),
+        Damage::Owner => lower_owner(random, &mut bytes, rack),
+        _ => {
+            let at = field(random, rack.n, damage);
+            damage_byte(random, &mut bytes[at]);
+        }
     }
     bytes
 }
@@ -110,7 +114,9 @@ fn damage_model(random: &mut Random, rack: &mut Rack) {
             rack.mate[w] = Some(v);
         }
         _ => {
-            let level = random.below(5) as i32 - 1;
+            // A vertex and its mate go to another level, at times to none that
+            // there is, and the owners go with them.
+            let level = random.pick(&[-1, 0, 1, 2, 3, 4, 5, 8, 64, 128, 254]);
             for end in [v, rack.mate[v].unwrap_or(v)] {
                 rack.level[end] = level;
             }
@@ -170,6 +176,25 @@ fn sly(random: &mut Random, bytes: &mut [u8], rack: &Rack) {
         for j in usize::from(above)..4 {
             let count = &mut bytes[776 + 4 * end + j];
             *count = count.wrapping_add(1);
+        }
+    }
+}
+
+/// An edge goes to its lower end, and both ends count it from there: right for
+/// whoever takes the owner's level for the higher one.
+fn lower_owner(random: &mut Random, bytes: &mut [u8], rack: &Rack) {
+    let lower = |v: usize| rack.neighbours_below(v, rack.level[v]);
+    let owners: Vec<usize> = (0..rack.n).filter(|&v| !lower(v).is_empty()).collect();
+    if owners.is_empty() {
+        return;
+    }
+    let v = random.pick(&owners);
+    let w = random.pick(&lower(v));
+    bytes[1_800 + 32 * v + w / 8] &= !(1 << (w % 8));
+    bytes[1_800 + 32 * w + v / 8] |= 1 << (v % 8);
+    for j in usize::from(bytes[8 + w])..usize::from(bytes[8 + v]) {
+        for end in [v, w] {
+            bytes[776 + 4 * end + j] += 1;
         }
     }
 }
