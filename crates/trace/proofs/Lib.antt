@@ -3,3 +3,4 @@ pub mod Lines
 pub mod Whole
 pub mod Decide
 pub mod Bound
+pub mod RecordFits

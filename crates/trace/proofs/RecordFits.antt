@@ -1,0 +1,74 @@
+-- Every record of a trace of 1 to 256 vertices fits its space. Assumes nothing.
+use mathlib.Core.Path.{_≡_, refl, sym, ap, _∙_, subst}
+use mathlib.Core.Logic.{_≢_, inl, inr}
+use mathlib.Core.Bool.{Bool, true, false, _&&_, _||_, not}
+use Prim.Native.Nat.{ℕ, zero, suc, _+_, _*_, _/_, _^_, _≤_, _<_}
+use native.Mathlib.Nat.{pow-suc}
+use native.Mathlib.Omega.{arith}
+use lib.Dec.{eqb, ltb}
+use lib.ListN.{length}
+use Rattle.model.specs.State.{State, base, edge, pairs, empty}
+use Rattle.model.specs.Valid.{Valid}
+use Rattle.model.specs.Text.{largest}
+use Rattle.model.specs.Trace.{Trace, traceText}
+use Rattle.model.specs.Change.{Change, Answer, number, change, refused}
+use Rattle.model.specs.Record.{recordText}
+use Rattle.model.specs.Run.{longest, spaceLength}
+use Rattle.model.proofs.Tests.{eq?}
+use Rattle.model.proofs.Counting.{count-bound}
+use Rattle.model.proofs.Limits.{mate-inside}
+use Rattle.theory.proofs.ChangeStep as steps
+use Rattle.theory.proofs.Matching.{empty-valid}
+use Rattle.text.proofs.Answers.{Figures}
+use Rattle.trace.proofs.Bound.{Bounded, Small, record-fits}
+
+pow-pos : (j : ℕ) → 1 ≤ 4 ^ j
+pow-pos zero = omega arith
+pow-pos (suc j) = omega (arith, pow-suc 4 j, pow-pos j)
+
+-- a refused change's number is at most 12
+pick : (b : Bool) (x y : ℕ) → x ≤ 12 → y ≤ 12 → elim b as (λ z. ℕ) [ true ↦ x | false ↦ y ] ≤ 12
+pick true x y h k = h
+pick false x y h k = k
+
+number-few : (n : ℕ) (there : ℕ → ℕ → Bool) (c : Change) → number n there c ≤ 12
+unfolding number
+number-few n there c =
+    pick (eqb (c .code) 1 || eqb (c .code) 2) _ 7
+    (pick (ltb (c .a) n && ltb (c .b) n) _ 8
+    (pick (eqb (c .a) (c .b)) 9 _ (omega arith)
+    (pick (eqb (c .code) 1 && there (c .a) (c .b)) 10 _ (omega arith)
+    (pick (eqb (c .code) 2 && not (there (c .a) (c .b))) 11 _ (omega arith)
+    (pick (ltb (length (c .words)) (n / 2)) 12 0 (omega arith) (omega arith))))) (omega arith)) (omega arith)
+
+small : (s : State) → Valid base s → Small s
+unfolding base
+small s ok = record {
+  few = ok .few;
+  mates = λ v b. elim (eq? (s .mate v) v) [ inl e ↦ omega (arith, ok .few) | inr d ↦ omega (arith, ok .few, mate-inside ok v d) ];
+  ranks = λ v b. omega (arith, ok .ranks v);
+}
+
+step : (s : State) (c : Change) → Valid base s → steps.Step base s c (change base s c)
+unfolding base
+step s c ok = steps.change-step base refl (λ j. pow-pos j) s ok c
+
+figures : (s : State) (c : Change) → Valid base s → Figures (change base s c .answer)
+unfolding base refused pairs
+figures s c ok =
+    let d = change base s c in
+    let w = step s c ok in
+    record {
+      number-fits = omega (arith, w .number, number-few (s .n) (edge s) c);
+      draws-fit = omega (arith, w .draws-half, ok .few);
+      falls-fit = omega (arith, w .falls-few, ok .few);
+      pairs-fit = elim (eq? (d .answer .number) 0) [
+        | inl e ↦ omega (arith, w .pairs-held e, count-bound (λ v. ltb v (d .state .mate v)) (d .state .n), w .valid .few)
+        | inr e ↦ omega (arith, ap (λ (x : Answer). x .pairs) (w .refused-keeps e .1))
+      ];
+    }
+
+pub record-fits-base : (t : Trace) → 1 ≤ t .n → t .n ≤ 256 → length (traceText t) ≤ longest → length (recordText base t) ≤ spaceLength
+record-fits-base t p q short =
+    record-fits base (Valid base) (record { keeps = λ s c ok. step s c ok .valid; figures = figures; small = small }) t
+    (unfold base in empty-valid base (λ j. pow-pos j) (t .n) p q) short
