@@ -1,6 +1,8 @@
 /*
  * The worked example of document 01 by the calls of the core: five changes on a rack of 4 boards, then all levels, mates and links, and the
- * audit. It prints what example.out holds.
+ * audit, at last of a damaged rack. It prints what example.out holds.
+ *
+ * cc -std=c99 -o example example.c DIRECTORY/libpairing.a
  */
 #include <inttypes.h>
 #include <stdio.h>

@@ -30,32 +30,29 @@ pub fn audit(rack: &RackBytes) -> bool {
     mates_are_right(rack, n) && edges_are_right(rack, n, &ownable)
 }
 
-/// Whether the entries from vertex n on are those of no vertex. Their counts
-/// are looked at together with all others.
+/// Whether the ranks and rows from vertex n on are empty. The mates and counts
+/// there are looked at together with all others.
 fn empty_from(rack: &RackBytes, n: usize) -> bool {
-    all(&rack[RANKS_AT + n..MATES_AT], 0)
-        && all(&rack[MATES_AT + 2 * n..PHI_AT], 255)
-        && all(&rack[ROWS_AT + 32 * n..], 0)
+    zero(&rack[RANKS_AT + n..MATES_AT]) && zero(&rack[ROWS_AT + 32 * n..])
 }
 
-/// Whether all bytes have one value.
-fn all(bytes: &[u8], value: u8) -> bool {
-    bytes.iter().fold(0, |other, byte| other | (byte ^ value)) == 0
+fn zero(bytes: &[u8]) -> bool {
+    bytes.iter().fold(0, |all, byte| all | byte) == 0
 }
 
 const LOW_BITS: u64 = 0x0101_0101_0101_0101;
 
 /// The vertices to which a vertex of each rank may own edges: those of no
-/// higher rank, and for rank 0 none, since phi at 0 is below 1. There are eight
-/// places so that no rank needs a test. None if some rank is above 4.
+/// higher rank, and for rank 0 none, since phi at 0 is below 1. None if some
+/// rank is above 7. Ranks 5 to 7 may own no edge either; as one of two mates
+/// owns the edge between them, no vertex can then stand on such a rank.
 fn ownable(rack: &RackBytes, n: usize) -> Option<[Row; 8]> {
     let mut planes = [[0; 32]; 3];
     let mut over = 0;
     let groups = rack[RANKS_AT..MATES_AT].chunks_exact(8);
     for (group, ranks) in groups.enumerate().take(n.div_ceil(8)) {
         let ranks = word(ranks);
-        // Ranks up to 4 have no bit but the lowest three, and the third alone.
-        over |= ranks & !(7 * LOW_BITS) | (ranks >> 2) & (ranks | ranks >> 1) & LOW_BITS;
+        over |= ranks & !(7 * LOW_BITS);
         for (bit, plane) in planes.iter_mut().enumerate() {
             plane[group] = gathered(ranks >> bit);
         }
@@ -121,8 +118,8 @@ fn mated(rack: &RackBytes, mates: &[u16; 256]) -> Option<u16> {
     (wrong == 0).then_some(mated)
 }
 
-/// Whether v and its mate are a pair. The mate's entries past the rack are
-/// those of a free vertex, so it needs no other test than being a place.
+/// Whether v and its mate are a pair. Past n all vertices are free, so a mate
+/// there doesn't name v.
 fn pair_is_right(rack: &RackBytes, mates: &[u16; 256], v: u8, mate: u16) -> bool {
     if mate > 255 {
         return false;

@@ -174,20 +174,20 @@ fn eight(text: &[u8]) -> u64 {
     }
 }
 
-/// What follows a number of seven digits or more. Those of ten are in order as
-/// their digits are.
+/// What follows a number of seven to ten digits. Those of ten are in order as
+/// their digits are; an eleventh digit is left over and fits nothing.
 fn after_long(text: &[u8]) -> Option<&[u8]> {
     let head = eight(text);
     let more = text[7..]
         .iter()
-        .take(4)
+        .take(3)
         .take_while(|byte| byte.is_ascii_digit());
     let (number, rest) = text.split_at(7 + more.count());
     let small = match *number {
         [.., a, b] if number.len() == 10 => (head.swap_bytes(), [a, b]) <= HIGHEST,
-        _ => number.len() < 10,
+        _ => true,
     };
-    (small && fits(number.len(), number[0] ^ b'0')).then_some(rest)
+    (small && number[0] != b'0').then_some(rest)
 }
 
 /// Whether so many digits with this one first are a number: there are some,

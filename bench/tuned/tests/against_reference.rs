@@ -113,6 +113,27 @@ fn audits_of_counts_that_go_over() {
     }
 }
 
+/// A second owner for single edges of dense racks, or an edge from a vertex to
+/// itself, everywhere in the matrix of rows and with an edge number to suit.
+#[test]
+fn audits_of_edges_with_two_owners() {
+    let mut random = Random::new(0x55_0000);
+    for n in [40, 66, 100, 129, 192, 193, 255, 256] {
+        let rack = bytes(&racks::rack(&mut random, n, Kind::Dense));
+        assert!(tuned::audit(&rack), "dense rack of {n} vertices");
+        for _ in 0..2_000 {
+            let (v, w) = (random.below(n), random.below(n));
+            let mut mine = rack;
+            for (v, w) in [(v, w), (w, v)] {
+                mine[1_800 + 32 * v + w / 8] |= 1 << (w % 8);
+            }
+            let bits: u32 = mine[1_800..].iter().map(|byte| byte.count_ones()).sum();
+            mine[2..4].copy_from_slice(&(bits as u16).to_le_bytes());
+            assert!(!tuned::audit(&mine), "{n} vertices, {v} and {w}");
+        }
+    }
+}
+
 #[test]
 fn audits_of_bytes_without_meaning() {
     for byte in 0..=255 {

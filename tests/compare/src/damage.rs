@@ -44,6 +44,7 @@ pub fn damaged(random: &mut Random, rack: &Rack, damage: Damage) -> Vec<u8> {
     }
     let mut bytes = rack.to_bytes();
     match damage {
+        Damage::Sly if random.percent(15) => high_ranks(random, &mut bytes, rack),
         Damage::Sly => sly(random, &mut bytes, rack),
         Damage::Owner => lower_owner(random, &mut bytes, rack),
         _ => {
@@ -177,6 +178,17 @@ fn sly(random: &mut Random, bytes: &mut [u8], rack: &Rack) {
             let count = &mut bytes[776 + 4 * end + j];
             *count = count.wrapping_add(1);
         }
+    }
+}
+
+/// A vertex and its mate get level bytes that are right but for their upper
+/// bits.
+fn high_ranks(random: &mut Random, bytes: &mut [u8], rack: &Rack) {
+    let v = random.below(rack.n);
+    let more = random.pick(&[8, 16, 32, 64, 128]);
+    bytes[8 + v] |= more;
+    if let Some(mate) = rack.mate[v] {
+        bytes[8 + mate] |= more;
     }
 }
 

@@ -94,7 +94,10 @@ impl Tally {
             .filter(|&number| queries[number] > 0)
             .map(|number| format!("{} with {number}", queries[number]))
             .collect();
-        let numbers = numbers.join(", ");
+        let numbers = match numbers.is_empty() {
+            true => "none".into(),
+            false => numbers.join(", "),
+        };
         println!("{what}: audit yes {yes}, no {no}; queries {numbers}: equal");
     }
 
