@@ -4,7 +4,10 @@ use Prim.Native.Nat.{ℕ}
 use Rattle.model.specs.Text.{bytes, decimal}
 use Rattle.model.specs.Change.{Answer}
 
--- how many bytes a printer is lent at least: no answer's line, pair's line and end line of figures of 32 bits is longer
+-- how many bytes a printer is lent at least: no first line, answer's line, pair's line and end line of figures of 32 bits is longer
+abbrev pub rackRoom : ℕ
+rackRoom = 27
+
 abbrev pub answerRoom : ℕ
 answerRoom = 64
 

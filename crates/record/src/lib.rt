@@ -2,9 +2,10 @@
 // their values. "each line is put straight after the one before it in the record space": a caller lends the rest of the space.
 ghost use Prim.Native.Nat.{_≤_};
 ghost use lib.ListN.{length};
+ghost use Rattle.model.specs.Trace.{rackLine};
 ghost use Rattle.model.specs.Record.{answerLine};
 ghost use Rattle.text.specs.Writing.{Put};
-ghost use Rattle.record.specs.Line.{answerRoom, pairRoom, endRoom, fieldText, oneText, threeText, answered, pairText, endText};
+ghost use Rattle.record.specs.Line.{rackRoom, answerRoom, pairRoom, endRoom, fieldText, oneText, threeText, answered, pairText, endText};
 
 // Writes a fixed text, and a number straight after it.
 fn put_field(out: &mut [u8], p: &[u8], x: u32) -> usize
@@ -45,6 +46,14 @@ fn put_three(
     let at = i + j;
     let k = put_one(&mut out[at..], r, z, e);
     at + k
+}
+
+// Writes line 1, which the record repeats from the trace.
+pub fn put_rack(out: &mut [u8], n: u32) -> usize
+    requires { ⌜ rackRoom ≤ length (now out) ⌝ }
+    ensures { λ r. ⌜ Put (rackLine n) (now (out .entry)) (now (out .exit)) r ⌝ }
+{
+    put_one(out, b"(rack (boards ", n, b"))\n")
 }
 
 // Writes the line of a change: `(done (draws D) (falls F) (pairs P))` for number 0, else `(refused K)`.
