@@ -1,8 +1,8 @@
 -- Laws of lists of numbers, and the pigeonhole. Assumes nothing.
-use mathlib.Core.Path.{_≡_, refl, sym, subst, _∙_}
+use mathlib.Core.Path.{_≡_, refl, sym, ap, subst, _∙_}
 use mathlib.Core.Logic.{_≢_, _⊎_, inl, inr}
 use mathlib.Core.Bool.{Bool, true, false}
-use mathlib.Core.List.{List, [], _∷_}
+use mathlib.Core.List.{List, [], _∷_, _++_, append-assoc}
 use Prim.Native.Nat.{ℕ, zero, suc, _+_, _≤_, _<_}
 use native.Mathlib.Omega.{arith}
 use lib.Dec.{T, T-not}
@@ -95,6 +95,28 @@ listed-all p n = listedOnto-all p (λ v. (v < n) × T (p v)) n [] (λ v b t. (b,
 pub listed-mem : (p : ℕ → Bool) (n v : ℕ) → v < n → T (p v) → Mem v (listed p n)
 unfolding listed
 listed-mem p n v b t = listedOnto-mem p n [] v (inl (b, t))
+
+-- what is listed stands before what was there
+listedOnto-append : (p : ℕ → Bool) (m : ℕ) (l : List ℕ) → listedOnto p m l ≡ listedOnto p m [] ++ l
+unfolding listedOnto
+listedOnto-append p zero l = refl
+listedOnto-append p (suc m) l = elim (bool? (p m)) [
+  | inl t ↦ rw (T-true {b = p m} t, listedOnto) (
+      listedOnto-append p m (m ∷ l)
+      ∙ sym (append-assoc (listedOnto p m []) (m ∷ []) l)
+      ∙ ap (λ (k : List ℕ). k ++ l) (sym (listedOnto-append p m (m ∷ [])))
+      )
+  | inr t ↦ rw (T-false {b = p m} (T-not (p m) t), listedOnto) (listedOnto-append p m l)
+]
+
+-- one number more: it is listed last if it passes
+pub listed-yes : (p : ℕ → Bool) (n : ℕ) → p n ≡ true → listed p (suc n) ≡ listed p n ++ (n ∷ [])
+unfolding listed listedOnto
+listed-yes p n e = rw (e, listedOnto) (listedOnto-append p n (n ∷ []))
+
+pub listed-no : (p : ℕ → Bool) (n : ℕ) → p n ≡ false → listed p (suc n) ≡ listed p n
+unfolding listed listedOnto
+listed-no p n e = rw (e, listedOnto) refl
 
 pub getD-mem : (l : List ℕ) (i : ℕ) → i < length l → Mem (getD l i 0) l
 getD-mem [] i h = absurd (omega arith)

@@ -1,7 +1,7 @@
 -- Laws of `over`: its length, one byte more, one text after another, and a part of a list that was overwritten at its start.
 -- No contract cites this file. Assumes nothing.
 use Prim.Native.Nat.{ℕ, suc, _+_, _-_, _≤_, _<_}
-use mathlib.Core.Path.{_≡_, sym, ap, _∙_}
+use mathlib.Core.Path.{_≡_, refl, sym, ap, _∙_}
 use mathlib.Core.List.{List, [], _∷_, _++_, append-assoc, append-nil}
 use native.Mathlib.Omega.{arith}
 use native.Mathlib.Nat.{add-zero, zero-add}
@@ -96,5 +96,17 @@ put-then {p} {q} {old} {w} {last} {n} {k} f g h =
           ∙ over-over 0 p q old (omega arith);
     }
 
+-- what was written, said of an equal text
+pub put-as : (p q : List ℕ) {old new : List ℕ} {r : ℕ} → p ≡ q → Put p old new r → Put q old new r
+put-as p q {old} e h = record { count = h .count ∙ ap length e; wrote = h .wrote ∙ ap (λ (l : List ℕ). over 0 l old) e }
+
+-- nothing was written
+pub put-none : (old : List ℕ) → Put [] old old 0
+put-none old = record { count = refl; wrote = sym (over-none 0 old) }
+
 pub put-length : {p old new : List ℕ} {r : ℕ} → Put p old new r → length p ≤ length old → length new ≡ length old
 put-length {p} {old} f h = ap length (f .wrote) ∙ length-over 0 p old (omega arith)
+
+-- the same, by how much was written
+pub put-kept : {p old new : List ℕ} {r : ℕ} → Put p old new r → r ≤ length old → length new ≡ length old
+put-kept f h = put-length f (omega (arith, f .count))

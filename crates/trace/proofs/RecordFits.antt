@@ -41,9 +41,9 @@ number-few n there c =
     (pick (eqb (c .code) 2 && not (there (c .a) (c .b))) 11 _ (omega arith)
     (pick (ltb (length (c .words)) (n / 2)) 12 0 (omega arith) (omega arith))))) (omega arith)) (omega arith)
 
-small : (s : State) → Valid base s → Small s
+pub valid-small : (s : State) → Valid base s → Small s
 unfolding base
-small s ok = record {
+valid-small s ok = record {
   few = ok .few;
   mates = λ v b. elim (eq? (s .mate v) v) [ inl e ↦ omega (arith, ok .few) | inr d ↦ omega (arith, ok .few, mate-inside ok v d) ];
   ranks = λ v b. omega (arith, ok .ranks v);
@@ -53,9 +53,9 @@ step : (s : State) (c : Change) → Valid base s → steps.Step base s c (change
 unfolding base
 step s c ok = steps.change-step base refl (λ j. pow-pos j) s ok c
 
-figures : (s : State) (c : Change) → Valid base s → Figures (change base s c .answer)
+pub valid-figures : (s : State) (c : Change) → Valid base s → Figures (change base s c .answer)
 unfolding base refused pairs
-figures s c ok =
+valid-figures s c ok =
     let d = change base s c in
     let w = step s c ok in
     record {
@@ -70,5 +70,5 @@ figures s c ok =
 
 pub record-fits-base : (t : Trace) → 1 ≤ t .n → t .n ≤ 256 → length (traceText t) ≤ longest → length (recordText base t) ≤ spaceLength
 record-fits-base t p q short =
-    record-fits base (Valid base) (record { keeps = λ s c ok. step s c ok .valid; figures = figures; small = small }) t
+    record-fits base (Valid base) (record { keeps = λ s c ok. step s c ok .valid; figures = valid-figures; small = valid-small }) t
     (unfold base in empty-valid base (λ j. pow-pos j) (t .n) p q) short

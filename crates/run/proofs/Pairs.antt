@@ -1,0 +1,101 @@
+-- The lines of the pairs, vertex by vertex, and what the bytes of a sound rack say of each. Assumes nothing.
+use mathlib.Core.Path.{_≡_, refl, sym, ap, _∙_, subst}
+use mathlib.Core.Logic.{_≢_, inl, inr}
+use mathlib.Core.Bool.{Bool, true, false}
+use mathlib.Core.List.{List, [], _∷_, _++_, append-nil}
+use Prim.Native.Nat.{ℕ, suc, _-_, _≤_, _<_}
+use native.Mathlib.Omega.{arith}
+use lib.Dec.{ltb, T-not}
+use lib.ListN.{length}
+use Rattle.model.specs.Counting.{listedOnto, listed}
+use Rattle.model.specs.State.{State}
+use Rattle.model.specs.Bytes.{rankAt, mateAt, read}
+use Rattle.model.specs.Text.{texts}
+use Rattle.model.specs.Record.{pairLine}
+use Rattle.model.proofs.Tests.{eq?, bool?, T-true, T-false, leb-yes, leb-no}
+use Rattle.model.proofs.Limits.{mateEntry-free, mateEntry-mate}
+use Rattle.model.proofs.Lists.{listed-yes, listed-no}
+use Rattle.moves.specs.Proper.{Held}
+use Rattle.moves.proofs.Held.{held-rank, held-mate}
+use Rattle.text.proofs.Texts.{texts-snoc}
+use Rattle.record.specs.Line.{pairText}
+use Rattle.record.proofs.Laws.{pair-line}
+use Rattle.trace.proofs.Bound.{pair-most}
+use Rattle.trace.proofs.RecordFits.{valid-small}
+use Rattle.changes.specs.Sounded.{Sounded}
+use Rattle.changes.proofs.Wholes.{sounded-held}
+use Rattle.run.specs.Runs.{pairPart}
+
+-- v is the lower vertex of a pair, or not
+part-yes : (s : State) (v : ℕ) → ltb v (s .mate v) ≡ true → pairPart s v ≡ pairLine s v
+unfolding pairPart
+part-yes s v e = rw (e, pairPart) refl
+
+part-no : (s : State) (v : ℕ) → ltb v (s .mate v) ≡ false → pairPart s v ≡ []
+unfolding pairPart
+part-no s v e = rw (e, pairPart) refl
+
+-- the lines of the pairs whose lower vertex is below v
+abbrev pub pairsTo : State → ℕ → List ℕ
+pairsTo s v = texts (pairLine s) (listed (λ x. ltb x (s .mate x)) v)
+
+pub pairs-zero : (s : State) → [] ≡ pairsTo s 0
+unfolding texts listed listedOnto
+pairs-zero s = refl
+
+pub pairs-suc : (s : State) (v : ℕ) → pairsTo s (suc v) ≡ pairsTo s v ++ pairPart s v
+pairs-suc s v =
+    let p : ℕ → Bool = λ x. ltb x (s .mate x) in
+    elim (bool? (p v)) [
+      | inl t ↦ let e : p v ≡ true = T-true {b = p v} t in
+          ap (texts (pairLine s)) (listed-yes p v e) ∙ texts-snoc (pairLine s) (listed p v) v ∙ ap (λ (l : List ℕ). pairsTo s v ++ l) (sym (part-yes s v e))
+      | inr t ↦ let e : p v ≡ false = T-false {b = p v} (T-not (p v) t) in
+          ap (texts (pairLine s)) (listed-no p v e) ∙ sym (append-nil (pairsTo s v)) ∙ ap (λ (l : List ℕ). pairsTo s v ++ l) (sym (part-no s v e))
+    ]
+
+module _ (bs : List ℕ) (ok : Sounded bs) (v : ℕ) (l : v < read bs .n) where
+  abbrev s : State
+  s = read bs
+
+  held : Held bs
+  held = sounded-held bs ok
+
+  small : v < 256
+  small = omega (arith, ok .valid .few)
+
+  pub part-free : mateAt bs v ≡ 65535 → pairPart (read bs) v ≡ []
+  part-free e = elim (eq? (s .mate v) v) [
+    | inl f ↦ part-no s v (leb-no (suc v) (s .mate v) (omega arith))
+    | inr f ↦ absurd (omega (arith, held-mate held v small, mateEntry-mate s v f, held .proper .mates v l, ok .valid .few))
+  ]
+
+  pub part-upper : mateAt bs v ≤ v → pairPart (read bs) v ≡ []
+  part-upper h = elim (eq? (s .mate v) v) [
+    | inl f ↦ part-no s v (leb-no (suc v) (s .mate v) (omega arith))
+    | inr f ↦ part-no s v (leb-no (suc v) (s .mate v) (omega (arith, held-mate held v small, mateEntry-mate s v f)))
+  ]
+
+  -- the entry of a lower vertex is its mate
+  module _ (d : mateAt bs v ≢ 65535) (h : v < mateAt bs v) where
+    mated : s .mate v ≢ v
+    mated f = d (held-mate held v small ∙ mateEntry-free s v f)
+
+    entry : mateAt bs v ≡ s .mate v
+    entry = held-mate held v small ∙ mateEntry-mate s v mated
+
+    pub part-rank : 1 ≤ rankAt bs v
+    part-rank = elim (eq? (s .rank v) 0) [ inl z ↦ absurd (mated (ok .valid .low-free v z)) | inr z ↦ omega (arith, held-rank held v small) ]
+
+    pub part-line : pairPart (read bs) v ≡ pairText v (mateAt bs v) (rankAt bs v - 1)
+    part-line =
+        part-yes s v (leb-yes (suc v) (s .mate v) (omega (arith, entry)))
+        ∙ pair-line s v
+        ∙ (λ i. pairText v (sym entry i) (sym (held-rank held v small) i - 1))
+
+  pub part-most : length (pairPart (read bs) v) ≤ 50
+  part-most =
+      let p : ℕ → Bool = λ x. ltb x (s .mate x) in
+      elim (bool? (p v)) [
+        | inl t ↦ omega (arith, ap length (part-yes s v (T-true {b = p v} t)), pair-most s v (valid-small s (ok .valid)) l)
+        | inr t ↦ omega (arith, ap length (part-no s v (T-false {b = p v} (T-not (p v) t))))
+      ]

@@ -1,0 +1,117 @@
+-- `run::run` meets its contract. Assumes nothing.
+use mathlib.Core.Path.{_≡_, refl, sym, _∙_, subst}
+use mathlib.Core.Bool.{true}
+use Prim.Native.Nat.{_≤_}
+use native.Mathlib.Omega.{arith}
+use lib.ListN.{length}
+use Rattle.model.specs.Calls.{sized}
+use Rattle.model.specs.Run.{rack-length, text-long, space-short, bad-line}
+use Rattle.engine.proofs.Numbers.{off, on}
+use Rattle.trace.specs.Check.{Checks}
+use Rattle.run.specs.Runs.{Taken}
+use Rattle.run.proofs.Whole.{ran-as, answer-of}
+use borrow.Author.Needs.{needs}
+use Rattle.run.proofs.run.Statement.{statement}
+use Rattle.run.proofs.run.Tie as tie
+
+sized-requires : tie.Need-sized-requires
+sized-requires c κs = search needs
+
+turned-back-requires : tie.Need-turned-back-requires
+turned-back-requires c κs = search needs
+
+same-length : tie.Need-same-length
+same-length c = search needs
+
+returns : tie.Need-returns
+returns c =
+    let r = c .turned-back .ensures in
+    ran-as (answer-of _ (r .0) (r .1) (r .2)) refl refl (rack-length (sym (c .before .before .sized .ensures) ∙ off _ (c .before .if1 .taken)))
+
+turned-back-requires-2 : tie.Need-turned-back-requires-2
+turned-back-requires-2 c κs = search needs
+
+same-length-2 : tie.Need-same-length-2
+same-length-2 c = search needs
+
+returns-2 : tie.Need-returns-2
+returns-2 c =
+    let r = c .turned-back2 .ensures in
+    ran-as (answer-of _ (r .0) (r .1) (r .2)) refl refl (text-long (sym (c .before .before .before .sized .ensures) ∙ on _ (c .before .before .if1 .left)) (c .before .if2 .taken))
+
+turned-back-requires-3 : tie.Need-turned-back-requires-3
+turned-back-requires-3 c κs = search needs
+
+same-length-3 : tie.Need-same-length-3
+same-length-3 c = search needs
+
+returns-3 : tie.Need-returns-3
+returns-3 c =
+    let r = c .turned-back3 .ensures in
+    ran-as (answer-of _ (r .0) (r .1) (r .2)) refl refl
+    (space-short (sym (c .before .before .before .before .sized .ensures) ∙ on _ (c .before .before .before .if1 .left)) (omega (arith, c .before .before .if2 .left)) (c .before .if3 .taken))
+
+check-requires : tie.Need-check-requires
+check-requires c κs = search needs
+
+-- the lengths are those that a run takes
+good : (c : tie.Else3) → (sized (c .before .before .before .before .before .before .before .before .args .rack .now) ≡ true) × (length (c .before .before .before .before .before .before .before .before .args .text .now) ≤ 16384) × (65536 ≤ length (c .before .before .before .before .before .before .before .before .args .space .now))
+good c = (sym (c .before .before .before .sized .ensures) ∙ on _ (c .before .before .if1 .left), omega (arith, c .before .if2 .left), omega (arith, c .if3 .left))
+
+enum-known-line : tie.Need-enum-known-line
+enum-known-line c = search needs
+
+turned-back-requires-4 : tie.Need-turned-back-requires-4
+turned-back-requires-4 c κs = search needs
+
+enum-known-n : tie.Need-enum-known-n
+enum-known-n c = search needs
+
+taken-requires : tie.Need-taken-requires
+taken-requires c κs =
+    let g = good (c .before .before .before .before .before .before) in
+    let h = subst (Checks _) (c .before .before .before .n .given .1) (c .before .before .before .before .before .check .ensures) in
+    (g .0, record { changes = h .0; holds = h .1; short = g .1; wide = g .2 })
+
+same-length-4 : tie.Need-same-length-4
+same-length-4 c = search needs
+
+returns-4 : tie.Need-returns-4
+returns-4 c =
+    let r = c .turned-back4 .ensures in
+    let g = good (c .before .before .before .before .before) in
+    ran-as (answer-of _ (r .0) (r .1) (r .2)) refl refl (bad-line (g .0) (g .1) (g .2) (subst (Checks _) (c .before .before .line .given .1) (c .before .before .before .before .check .ensures)))
+
+same-length-5 : tie.Need-same-length-5
+same-length-5 c = search needs
+
+same-length-6 : tie.Need-same-length-6
+same-length-6 c = search needs
+
+returns-5 : tie.Need-returns-5
+returns-5 c = c .before .before .before .before .taken .ensures
+
+pub run-spec : {M : Type 1} → statement M
+run-spec =
+    tie.close
+    (tie.spec
+    sized-requires
+    turned-back-requires
+    same-length
+    returns
+    turned-back-requires-2
+    same-length-2
+    returns-2
+    turned-back-requires-3
+    same-length-3
+    returns-3
+    check-requires
+    enum-known-line
+    turned-back-requires-4
+    enum-known-n
+    taken-requires
+    same-length-4
+    returns-4
+    same-length-5
+    same-length-6
+    returns-5)

@@ -1,0 +1,164 @@
+// A trace text run to its record. The whole text is read before the rack is made; then each change is read again, made on the rack, and
+// answered by a line straight after the one before it. The rack is made here and stays sound, so no change is audited.
+use lines::ChangeRead;
+use trace::Checked;
+ghost use mathlib.Core.Path.{_≡_};
+ghost use mathlib.Core.Bool.{true};
+ghost use Prim.Native.Nat.{_≤_, _<_};
+ghost use lib.ListN.{length};
+ghost use Rattle.model.specs.State.{base, empty};
+ghost use Rattle.model.specs.Bytes.{read, write};
+ghost use Rattle.model.specs.Sound.{sizeGood};
+ghost use Rattle.model.specs.Change.{change as changeOf};
+ghost use Rattle.model.specs.Calls.{sized as sizedOf};
+ghost use Rattle.model.specs.Record.{answerLine, pairLines};
+ghost use Rattle.model.specs.Run.{Ran};
+ghost use Rattle.text.specs.Writing.{Put};
+ghost use Rattle.record.specs.Line.{answerRoom, pairRoom};
+ghost use Rattle.changes.specs.Sounded.{Sounded, brought};
+ghost use Rattle.run.specs.Runs.{endingRoom, endingText, pairPart, Ready, Played, Written, Taken, told};
+
+// "The answer is 0 and the record's length", or the number of a run that was turned back, with its line if that is 4.
+pub struct RunAnswer {
+    pub number: u32,
+    pub line: usize,
+    pub length: usize,
+}
+
+// The pair's line of v, if v is the lower vertex of a pair.
+fn put_lower(rack: &[u8], v: usize, out: &mut [u8]) -> usize
+    requires { ⌜ Sounded (now rack) ⌝ }
+    requires { ⌜ (v < read (now rack) .n) × (pairRoom ≤ length (now out)) ⌝ }
+    ensures { λ r. ⌜ Put (pairPart (read (now (rack .entry))) v) (now (out .entry)) (now (out .exit)) r ⌝ }
+{
+    let m = layout::mate(rack, v);
+    if m == layout::NO_MATE {
+        return 0;
+    }
+    if m as usize <= v {
+        return 0;
+    }
+    let level = layout::rank(rack, v) - 1;
+    record::put_pair(out, v as u32, m as u32, level as u32)
+}
+
+// "then the pairs by rising lower board"
+fn put_pairs(rack: &[u8], out: &mut [u8]) -> usize
+    requires { ⌜ Sounded (now rack) ⌝ }
+    requires { ⌜ endingRoom ≤ length (now out) ⌝ }
+    ensures { λ r. ⌜ Put (pairLines (read (now (rack .entry)))) (now (out .entry)) (now (out .exit)) r ⌝ }
+{
+    let n = layout::size(rack);
+    let mut at = 0;
+    let mut v = 0;
+    while v < n {
+        let k = put_lower(rack, v, &mut out[at..]);
+        at += k;
+        v += 1;
+    }
+    at
+}
+
+// "then the pairs by rising lower board, then the end line"
+fn put_ending(rack: &[u8], out: &mut [u8]) -> usize
+    requires { ⌜ Sounded (now rack) ⌝ }
+    requires { ⌜ endingRoom ≤ length (now out) ⌝ }
+    ensures { λ r. ⌜ Put (endingText (read (now (rack .entry)))) (now (out .entry)) (now (out .exit)) r ⌝ }
+{
+    let at = put_pairs(rack, out);
+    let pairs = changes::pairs(rack);
+    let k = record::put_end(&mut out[at..], pairs);
+    at + k
+}
+
+// One change, and the line that answers it.
+fn put_change(rack: &mut [u8], code: u32, a: u32, b: u32, words: &[u32], out: &mut [u8]) -> usize
+    requires { ⌜ Sounded (now rack) ⌝ }
+    requires { ⌜ answerRoom ≤ length (now out) ⌝ }
+    ensures leaves { λ _. ⌜ now (rack .exit) ≡ write (changeOf base (read (now (rack .entry))) (brought code a b (now (words .entry))) .state) ⌝ }
+    ensures prints { λ r. ⌜ Put (answerLine (changeOf base (read (now (rack .entry))) (brought code a b (now (words .entry))) .answer)) (now (out .entry)) (now (out .exit)) r ⌝ }
+{
+    let x = changes::change(rack, code, a, b, words);
+    record::put_answer(out, x.number, x.draws, x.falls, x.pairs)
+}
+
+// "one line for each change, then the pairs by rising lower board, then the end line": the changes that stand from `from` on are made, and
+// "each line is put straight after the one before it": the rest of the record space is lent on from the present length.
+fn put_changes(rack: &mut [u8], text: &[u8], from: usize, out: &mut [u8]) -> usize
+    requires { ⌜ Sounded (now rack) ⌝ }
+    requires { ⌜ Ready (now text) from (length (now out)) ⌝ }
+    ensures { λ r. ⌜ Played (now (text .entry)) from (now (rack .entry)) (now (rack .exit)) (now (out .entry)) (now (out .exit)) r ⌝ }
+{
+    let mut words = [0u32; 128];
+    let mut i = from;
+    let mut at = 0;
+    while i < text.len() {
+        let ChangeRead::Line(code, a, b, count, next) = lines::change_at(text, i, &mut words) else {
+            return at;
+        };
+        let k = put_change(rack, code, a, b, &words[..count], &mut out[at..]);
+        at += k;
+        i = next;
+    }
+    let k = put_ending(rack, &mut out[at..]);
+    at + k
+}
+
+// "The record repeats line 1, has one line for each change, then the pairs by rising lower board, then the end line": of n vertices, on the
+// rack just made.
+fn put_record(rack: &mut [u8], text: &[u8], n: u32, space: &mut [u8]) -> usize
+    requires { ⌜ Taken (now text) n (length (now space)) ⌝ }
+    requires { ⌜ (sizeGood n ≡ true) × (now rack ≡ write (empty n)) ⌝ }
+    ensures { λ r. ⌜ Written (now (text .entry)) n (now (rack .exit)) (now (space .entry)) (now (space .exit)) r ⌝ }
+{
+    let at = record::put_rack(space, n);
+    let k = put_changes(rack, text, at, &mut space[at..]);
+    at + k
+}
+
+// The answer of a run that was turned back.
+fn turned_back(number: u32, line: usize) -> RunAnswer
+    ensures { λ r. ⌜ (r .number ≡ number) × (r .line ≡ line) × (r .length ≡ 0) ⌝ }
+{
+    RunAnswer {
+        number,
+        line,
+        length: 0,
+    }
+}
+
+// "a trace 1 to 5", first fit first: the lengths, then the grammar, then the board number.
+pub fn run(rack: &mut [u8], text: &[u8], space: &mut [u8]) -> RunAnswer
+    ensures { λ r. ⌜ Ran base (now (rack .entry)) (now (text .entry)) (now (space .entry)) (told r) (now (rack .exit)) (now (space .exit)) ⌝ }
+{
+    if !layout::sized(rack) {
+        return turned_back(1, 0);
+    }
+    if 16384 < text.len() {
+        return turned_back(2, 0);
+    }
+    if space.len() < 65536 {
+        return turned_back(3, 0);
+    }
+    match trace::check(text) {
+        Checked::Bad(line) => turned_back(4, line),
+        Checked::Fits(n) => taken(rack, text, n, space),
+    }
+}
+
+// A run of a text that fits the grammar: "5. The board number n asked for isn't 1 to 256.", or its record.
+fn taken(rack: &mut [u8], text: &[u8], n: u32, space: &mut [u8]) -> RunAnswer
+    requires { ⌜ sizedOf (now rack) ≡ true ⌝ }
+    requires { ⌜ Taken (now text) n (length (now space)) ⌝ }
+    ensures { λ r. ⌜ Ran base (now (rack .entry)) (now (text .entry)) (now (space .entry)) (told r) (now (rack .exit)) (now (space .exit)) ⌝ }
+{
+    if engine::make(rack, n) != 0 {
+        return turned_back(5, 0);
+    }
+    let length = put_record(rack, text, n, space);
+    RunAnswer {
+        number: 0,
+        line: 0,
+        length,
+    }
+}
