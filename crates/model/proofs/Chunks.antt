@@ -14,7 +14,7 @@ use lib.Pow.{pow-pos, pow-add, shr-lt, shr-shr}
 use Rattle.model.specs.Counting.{sum, bit, eachOnto, each}
 use Rattle.model.specs.Bytes.{bitOf, rowByte}
 use Rattle.model.proofs.Tests.{eq?}
-use Rattle.model.proofs.Counting.{bit-le}
+use Rattle.model.proofs.Counting.{bit-le, bit-test}
 
 -- Chunks of one width k, one after the other.
 module _ {A : Type 0} (k : ℕ) (f : ℕ → List A) (wide : (v : ℕ) → length (f v) ≡ k) where
@@ -95,14 +95,9 @@ bits-ext (suc k) x y hx hy f =
     let lo : x / 1 % 2 ≡ y / 1 % 2 = f zero (zero-lt-suc k) in
     omega arith
 
-bit-test : (b : Bool) → eqb (bit b) 1 ≡ b
-bit-test true = refl
-bit-test false = refl
-
-test-bit : (x : ℕ) → x < 2 → bit (eqb x 1) ≡ x
-test-bit zero h = refl
-test-bit (suc zero) h = refl
-test-bit (suc (suc x)) h = absurd (omega arith)
+test-bit : (b : Bool) → eqb (bit b) 1 ≡ b
+test-bit true = refl
+test-bit false = refl
 
 -- the bits of a row's byte are what it was made of
 pub rowByte-small : (p : ℕ → Bool) (k : ℕ) → rowByte p k < 256
@@ -111,13 +106,13 @@ rowByte-small p k = packed-small (λ b. p (8 * k + b)) 8
 
 pub bit-rowByte : (p : ℕ → Bool) (k b : ℕ) → b < 8 → bitOf (rowByte p k) b ≡ p (8 * k + b)
 unfolding rowByte bitOf
-bit-rowByte p k b l = ap (λ (x : ℕ). eqb x 1) (packed-bit (λ b. p (8 * k + b)) 8 b l) ∙ bit-test (p (8 * k + b))
+bit-rowByte p k b l = ap (λ (x : ℕ). eqb x 1) (packed-bit (λ b. p (8 * k + b)) 8 b l) ∙ test-bit (p (8 * k + b))
 
 -- a byte is known by its bits
 pub byte-ext : (x y : ℕ) → x < 256 → y < 256 → ((b : ℕ) → b < 8 → bitOf x b ≡ bitOf y b) → x ≡ y
 unfolding bitOf
 byte-ext x y hx hy f =
-    bits-ext 8 x y hx hy (λ b l. sym (test-bit (x / 2 ^ b % 2) (omega arith)) ∙ ap bit (f b l) ∙ test-bit (y / 2 ^ b % 2) (omega arith))
+    bits-ext 8 x y hx hy (λ b l. sym (bit-test (x / 2 ^ b % 2) (omega arith)) ∙ ap bit (f b l) ∙ bit-test (y / 2 ^ b % 2) (omega arith))
 
 -- a byte is the byte of its own bits
 pub rowByte-of : (x : ℕ) → x < 256 → (p : ℕ → Bool) (k : ℕ) → ((b : ℕ) → b < 8 → p (8 * k + b) ≡ bitOf x b) → rowByte p k ≡ x
