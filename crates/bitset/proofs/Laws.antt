@@ -1,11 +1,9 @@
 -- The laws of rows that callers cite: membership after a change, a row by its members, and the counts of members. Assumes nothing.
-use mathlib.Core.Path.{_≡_, refl, sym, ap, ap₂, _∙_, subst}
+use mathlib.Core.Path.{_≡_, refl, sym, ap, ap₂, _∙_}
 use mathlib.Core.Bool.{Bool, true, false}
 use mathlib.Core.List.{List}
 use Prim.Native.Nat.{ℕ, zero, suc, _+_, _-_, _*_, _/_, _%_, _^_, _≤_, _<_}
-use native.Mathlib.Nat.{mod-lt, add-comm}
 use native.Mathlib.Decide.{ℕ-discrete, decLt}
-use native.Mathlib.Numerals.{add-one}
 use native.Mathlib.Omega.{arith}
 use lib.Dec.{eqb}
 use lib.ListN.{length, getD, set, take, drop, length-set}
@@ -15,9 +13,8 @@ use lib.Count.{ones}
 use borrow.Author.Tests.{eq-eqb, ne-eqb, eqb-true, eqb-false}
 use Rattle.model.specs.Bytes.{bitOf}
 use Rattle.model.specs.Counting.{bit, count}
-use Rattle.model.proofs.Tests.{T-true}
 use Rattle.model.proofs.Counting.{bit-test}
-use Rattle.model.proofs.Prefix.{count-zero, count-suc, count-mono, count-inj}
+use Rattle.model.proofs.Prefix.{count-suc, count-mono, count-inj}
 use Rattle.bitset.specs.Row.{member, inserted, removed, size, Nth}
 use Rattle.bitset.proofs.Digits.{digit, digit-lt, digit-or, digit-and, digit-bit, digit-hole, or-one, and-one, digits-ext, ones-low, ones-zero}
 

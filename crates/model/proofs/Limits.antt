@@ -8,7 +8,7 @@ use native.Mathlib.Omega.{arith}
 use lib.Dec.{T, leb, ltb, leb→le}
 use Rattle.model.specs.Counting.{count}
 use Rattle.model.specs.State.{Rules, State, edge, near, below, phi, edges}
-use Rattle.model.specs.Bytes.{most, noMate, mateEntry}
+use Rattle.model.specs.Bytes.{noMate, mateEntry}
 use Rattle.model.specs.Valid.{Valid}
 use Rattle.model.proofs.Tests.{eq?, le?, eqb-yes, eqb-no, leb-yes, leb-no, and-left, or-cases}
 use Rattle.model.proofs.Counting.{sum-bound, count-none, count-miss}

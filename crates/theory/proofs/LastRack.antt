@@ -1,23 +1,20 @@
 -- What the bytes of a valid state say, with its edges as the ledger's: every fact of demand 3 about the last rack. Assumes nothing.
 use mathlib.Core.Path.{_≡_, sym, ap, _∙_, subst}
 use mathlib.Core.Logic.{_≢_, inl, inr}
-use mathlib.Core.Bool.{Bool, true, false, _&&_}
-use mathlib.Core.List.{List}
-use Prim.Native.Nat.{ℕ, suc, _*_, _^_, _≤_, _<_}
+use mathlib.Core.Bool.{_&&_}
+use Prim.Native.Nat.{ℕ, _*_, _≤_, _<_}
 use native.Mathlib.Omega.{arith}
 use lib.Dec.{T, leb}
 use lib.ListN.{length}
-use Rattle.model.specs.Counting.{count}
-use Rattle.model.specs.State.{State, base, edge, near, below, phi, pairs}
-use Rattle.model.specs.Bytes.{noMate, rankAt, mateAt, phiAt, read, write}
+use Rattle.model.specs.State.{State, base, edge, near, below, phi}
+use Rattle.model.specs.Bytes.{noMate, rankAt, mateAt, phiAt, write}
 use Rattle.model.specs.Valid.{Valid}
-use Rattle.model.specs.Moves.{Ends}
 use Rattle.model.proofs.Tests.{eq?}
 use Rattle.model.proofs.Prefix.{count-ext}
 use Rattle.model.proofs.Fields.{rank-write, mate-write, phi-write}
 use Rattle.model.proofs.Limits.{phi-above, phi-zero, size-few, edge-inside, edge-loop, mate-inside, mateEntry-free, mateEntry-mate}
 use Rattle.model.proofs.Reading.{read-write}
-use Rattle.theory.specs.Demand.{pairsOf, neighboursBelow, Disjoint, Covers, Mates, Facts}
+use Rattle.theory.specs.Demand.{neighboursBelow, Mates, Facts}
 use Rattle.theory.proofs.ChangeStep.{ledger}
 use Rattle.theory.proofs.Matching.{base-one, maximal, twice, cover}
 use Rattle.theory.proofs.OnBytes.{write-sized, write-good, pairs-of}

@@ -1,5 +1,5 @@
 -- `engine::make` meets its contract. Assumes nothing.
-use mathlib.Core.Path.{_≡_, refl, sym, _∙_}
+use mathlib.Core.Path.{sym, _∙_}
 use native.Mathlib.Omega.{arith}
 use Rattle.engine.proofs.Numbers.{off, on, make-one, make-five, make-new, sized-length, few-bad, many-bad, few-good}
 use borrow.Author.Needs.{needs}
