@@ -14,6 +14,7 @@ use Rattle.model.specs.Bytes.{sizeAt, rankAt, ownsAt, read}
 use Rattle.model.proofs.Tests.{le?, eq?, leb-yes, leb-no}
 use Rattle.model.proofs.Counting.{sum-eq, sum-add, sum-zero, sum-point, bit-no}
 use Rattle.model.proofs.Prefix.{count-skip, count-ext}
+use Rattle.model.proofs.Limits.{phi-above, phi-zero}
 use Rattle.model.proofs.Reading.{read-size, read-rank, read-owns}
 use Rattle.layout.specs.Rows.{degreeAt}
 use Rattle.audit.specs.Tally.{share, tallied, upTo, Holds}
@@ -91,8 +92,7 @@ module _ (bs : List ℕ)
 
     -- x above j: nothing
     phi-high : j < rankAt bs x → phi (read bs) x j ≡ 0
-    unfolding phi
-    phi-high h = rw (leb-no (read bs .rank x) j (omega (arith, read-rank bs x hx)), phi) refl
+    phi-high h = phi-zero (read bs) x j (omega (arith, read-rank bs x hx))
 
     rows-high : j < rankAt bs x → (v : ℕ) → v < sizeAt bs → sum (share bs v 256 x) (suc j) ≡ 0
     rows-high h v hv = elim (le? (suc j) (rankAt bs v)) [
@@ -160,11 +160,10 @@ module _ (bs : List ℕ)
         (λ t. le→leb (rankAt bs w) j (omega (arith, high x hx w hw t))) (once x hx w hw)
 
     phi-low : rankAt bs x ≤ j → phi (read bs) x j ≡ count theirs (sizeAt bs) + count (ownsAt bs x) (sizeAt bs)
-    unfolding phi below count
+    unfolding below count
     phi-low h =
-        rw (leb-yes (read bs .rank x) j (omega (arith, read-rank bs x hx)), phi)
-        (ap (λ (m : ℕ). sum (λ w. bit (near (read bs) x j w)) m) (read-size bs)
-        ∙ sum-eq _ _ (sizeAt bs) (λ w hw. near-low h w hw) ∙ sum-add (λ w. bit (theirs w)) (λ w. bit (ownsAt bs x w)) (sizeAt bs))
+        phi-above (read bs) x j (omega (arith, read-rank bs x hx)) ∙ ap (λ (m : ℕ). sum (λ w. bit (near (read bs) x j w)) m) (read-size bs)
+        ∙ sum-eq _ _ (sizeAt bs) (λ w hw. near-low h w hw) ∙ sum-add (λ w. bit (theirs w)) (λ w. bit (ownsAt bs x w)) (sizeAt bs)
 
     pub phi-tallied : phi (read bs) x j ≡ sum (tallied bs (sizeAt bs) x) (suc j)
     unfolding count

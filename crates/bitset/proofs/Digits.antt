@@ -1,15 +1,13 @@
 -- Binary digits of numbers, at any width: after `|` and `&`, of a part, equality by digits, the count of ones, trailing zeros. Assumes nothing.
-use mathlib.Core.Path.{_≡_, refl, sym, ap, ap₂, _∙_, subst}
-use mathlib.Core.Bool.{Bool, true, false}
-use mathlib.Core.Logic.{_⊎_, inl, inr}
-use Prim.Native.Nat.{ℕ, zero, suc, _+_, _-_, _*_, _/_, _%_, _^_, _≤_, _<_, zero-le}
-use native.Mathlib.Nat.{mod-lt, pow-suc, add-zero, div-add-mod', zero-lt-suc, add-comm}
+use mathlib.Core.Path.{_≡_, refl, sym, ap, _∙_, subst}
+use Prim.Native.Nat.{ℕ, zero, suc, _+_, _-_, _*_, _/_, _%_, _^_, _≤_, _<_}
+use native.Mathlib.Nat.{mod-lt, div-add-mod', zero-lt-suc, add-comm}
 use native.Mathlib.Numerals.{add-one, one-add}
 use native.Mathlib.Omega.{arith}
-use lib.Dec.{T, eqb, eqb→eq, ltb}
+use lib.Dec.{T, eqb, eqb→eq}
 use lib.Pow.{pow-pos, shl-exact, shr-shr, mod-pow-add, shr-lt, shr-le, pow-mono}
-use lib.Bits.{bitAnd, bitOr, or-shr, or-mod, and-shr, and-mod, or-zero-r, and-zero-r}
-use lib.Count.{ones, ones-cat, ones-step, trailingZeros, under}
+use lib.Bits.{bitAnd, bitOr, or-shr, or-mod, and-shr, and-mod}
+use lib.Count.{ones, ones-cat, trailingZeros, under}
 use Rattle.model.specs.Bytes.{bitOf}
 use Rattle.model.specs.Counting.{bit, every}
 use Rattle.model.proofs.Counting.{every-all}

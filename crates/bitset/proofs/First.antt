@@ -2,7 +2,7 @@
 use mathlib.Core.Path.{_≡_, sym, ap, _∙_, subst, subst₂}
 use mathlib.Core.Logic.{inl, inr}
 use mathlib.Core.List.{List}
-use Prim.Native.Nat.{ℕ, zero, suc, _+_, _-_, _*_, _/_, _%_, _^_, _≤_, _<_}
+use Prim.Native.Nat.{ℕ, suc, _+_, _-_, _*_, _/_, _%_, _^_, _≤_, _<_}
 use native.Mathlib.Nat.{div-one, zero-div}
 use native.Mathlib.Omega.{arith}
 use lib.Dec.{T}
@@ -10,9 +10,9 @@ use lib.Pow.{pow-pos, mod-pow-add, shr-le}
 use lib.ListN.{length, getD}
 use lib.Count.{trailingZeros}
 use Rattle.model.specs.Bytes.{bitOf}
-use Rattle.model.proofs.Tests.{eq?, le?}
+use Rattle.model.proofs.Tests.{le?}
 use Rattle.bitset.specs.Row.{member, Next}
-use Rattle.bitset.proofs.Digits.{digit, digit-lt, digit-shr, digit-bitOf, bitOf-digit, low-suc, trailing, set-small}
+use Rattle.bitset.proofs.Digits.{digit, digit-shr, digit-bitOf, bitOf-digit, low-suc, trailing, set-small}
 
 -- a member of byte i is a digit of the byte, both ways
 pub member-digit : (row : List ℕ) (i j : ℕ) → j < 8 → T (member row (8 * i + j)) → digit (getD row i 0) j ≡ 1

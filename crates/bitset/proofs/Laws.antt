@@ -1,11 +1,9 @@
 -- The laws of rows that callers cite: membership after a change, a row by its members, and the counts of members. Assumes nothing.
-use mathlib.Core.Path.{_≡_, refl, sym, ap, ap₂, _∙_, subst}
+use mathlib.Core.Path.{_≡_, refl, sym, ap, ap₂, _∙_}
 use mathlib.Core.Bool.{Bool, true, false}
 use mathlib.Core.List.{List}
 use Prim.Native.Nat.{ℕ, zero, suc, _+_, _-_, _*_, _/_, _%_, _^_, _≤_, _<_}
-use native.Mathlib.Nat.{mod-lt, add-comm}
 use native.Mathlib.Decide.{ℕ-discrete, decLt}
-use native.Mathlib.Numerals.{add-one}
 use native.Mathlib.Omega.{arith}
 use lib.Dec.{eqb}
 use lib.ListN.{length, getD, set, take, drop, length-set}
@@ -15,8 +13,8 @@ use lib.Count.{ones}
 use borrow.Author.Tests.{eq-eqb, ne-eqb, eqb-true, eqb-false}
 use Rattle.model.specs.Bytes.{bitOf}
 use Rattle.model.specs.Counting.{bit, count}
-use Rattle.model.proofs.Tests.{T-true}
-use Rattle.model.proofs.Prefix.{count-zero, count-suc, count-mono, count-inj}
+use Rattle.model.proofs.Counting.{bit-test}
+use Rattle.model.proofs.Prefix.{count-suc, count-mono, count-inj}
 use Rattle.bitset.specs.Row.{member, inserted, removed, size, Nth}
 use Rattle.bitset.proofs.Digits.{digit, digit-lt, digit-or, digit-and, digit-bit, digit-hole, or-one, and-one, digits-ext, ones-low, ones-zero}
 
@@ -137,13 +135,8 @@ count-in row i (suc j) h =
     r : (8 * i + j) % 8 ≡ j
     r = omega arith
 
-    bit-is : (d : ℕ) → d < 2 → bit (eqb d 1) ≡ d
-    bit-is zero k = refl
-    bit-is (suc zero) k = refl
-    bit-is (suc (suc d)) k = absurd (omega arith)
-
     one-digit : bit (member row (8 * i + j)) ≡ digit (getD row i 0) j
-    one-digit = ap₂ (λ (x y : ℕ). bit (eqb (digit (getD row x 0) y) 1)) q r ∙ bit-is (digit (getD row i 0) j) (digit-lt (getD row i 0) j)
+    one-digit = ap₂ (λ (x y : ℕ). bit (eqb (digit (getD row x 0) y) 1)) q r ∙ bit-test (digit (getD row i 0) j) (digit-lt (getD row i 0) j)
 
 -- a byte more
 pub count-byte : (row : List ℕ) (i : ℕ) → getD row i 0 < 256 → count (member row) (8 * (i + 1)) ≡ count (member row) (8 * i) + ones (getD row i 0)

@@ -1,22 +1,20 @@
 -- A change as a whole: which of its ends is which, and what it answers. Assumes nothing.
-use mathlib.Core.Path.{_≡_, refl, sym, ap, ap₂, _∙_, subst}
-use mathlib.Core.Logic.{_≢_, _⊎_, inl, inr}
-use mathlib.Core.Bool.{Bool, true, false}
-use mathlib.Core.List.{List, []}
-use Prim.Native.Nat.{ℕ, zero, suc, _≤_, _<_}
+use mathlib.Core.Path.{_≡_, refl, sym, ap, _∙_, subst}
+use mathlib.Core.Logic.{_≢_, inl, inr}
+use mathlib.Core.List.{List}
+use Prim.Native.Nat.{ℕ, _≤_, _<_}
 use native.Mathlib.Omega.{arith}
-use lib.Dec.{T, eqb, leb}
 use Rattle.model.specs.State.{base, State, edge, pairs}
 use Rattle.model.specs.Bytes.{read, write, mateEntry}
 use Rattle.model.specs.Valid.{Valid}
 use Rattle.model.specs.Moves.{Run}
-use Rattle.model.specs.Change.{Change, Changed, lower, upper, add, drop, number, refused, done, accepted, change}
+use Rattle.model.specs.Change.{Changed, lower, upper, add, drop, number, refused, done, accepted, change}
 use Rattle.model.proofs.Tests.{eq?, bool-ext, T-true, T-false, eqb-yes, eqb-no, leb-yes, leb-no}
 use Rattle.model.proofs.Limits.{mateEntry-free, mateEntry-mate}
 use Rattle.theory.proofs.Numbers.{Fitting, number-zero}
 use Rattle.theory.proofs.ChangeStep.{Step}
 use Rattle.theory.proofs.OnBytes.{step}
-use Rattle.moves.specs.Proper.{Proper, Held}
+use Rattle.moves.specs.Proper.{Held}
 use Rattle.moves.proofs.Held.{held-of, reads-as, valid-proper}
 use Rattle.moves.proofs.Edges.{edge-turn}
 use Rattle.settling.specs.declared.Tally.{Tally}

@@ -2,17 +2,17 @@
 -- rise finds a vertex that can be promoted. Assumes nothing.
 use mathlib.Core.Path.{_≡_, refl, sym, ap, _∙_, subst}
 use mathlib.Core.Logic.{_≢_, _⊎_, inl, inr}
-use mathlib.Core.Bool.{Bool, true, false, not, _&&_, _||_}
-use Prim.Native.Nat.{ℕ, zero, suc, _≤_, _<_}
+use mathlib.Core.Bool.{not, _&&_}
+use Prim.Native.Nat.{ℕ, zero, suc, _≤_}
 use native.Mathlib.Omega.{arith}
-use lib.Dec.{T, leb, eqb, leb→le, eqb→eq}
+use lib.Dec.{T, eqb, eqb→eq}
 use Rattle.model.specs.Counting.{upd}
-use Rattle.model.specs.State.{Rules, base, State, edge, below, phi, free, pending}
+use Rattle.model.specs.State.{base, State, below, phi, pending}
 use Rattle.model.specs.Valid.{Valid}
-use Rattle.model.specs.Moves.{Found, none, found, part}
-use Rattle.model.specs.Change.{isEdge, withoutEdge, reown, owning, addEdge, reaches, riser}
+use Rattle.model.specs.Moves.{none, found, part}
+use Rattle.model.specs.Change.{isEdge, withoutEdge, reown, owning, addEdge, riser}
 use Rattle.model.proofs.Tests.{eq?, le?, and-left, and-right, or-cases}
-use Rattle.model.proofs.Lists.{upd-same, upd-other}
+use Rattle.model.proofs.Lists.{upd-other}
 use Rattle.model.proofs.Limits.{phi-below}
 use Rattle.theory.proofs.Takings.{pending-is}
 use Rattle.theory.proofs.Matching.{base-pos}

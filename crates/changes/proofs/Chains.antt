@@ -1,7 +1,7 @@
 -- From run to run: what one run leaves is where the next begins, and the whole is the definition's. Assumes nothing.
 use mathlib.Core.Path.{_≡_, refl, sym, ap, _∙_, subst}
 use mathlib.Core.List.{List}
-use Prim.Native.Nat.{ℕ, suc, _*_, _≤_, _<_}
+use Prim.Native.Nat.{ℕ, suc, _*_}
 use native.Mathlib.Omega.{arith}
 use lib.Dec.{T}
 use lib.ListN.{length}
@@ -14,7 +14,7 @@ use Rattle.moves.proofs.Held.{held-of, reads-as}
 use Rattle.settling.specs.declared.Tally.{Tally}
 use Rattle.settling.specs.Runs.{running, Waiting, Room, Left}
 use Rattle.settling.proofs.Steps.{Kept, promote-kept}
-use Rattle.settling.proofs.News.{Same, same-then, same-of, promote-same, promote-draws, promote-falls}
+use Rattle.settling.proofs.News.{Same, same-then, promote-same, promote-draws, promote-falls}
 use Rattle.settling.proofs.SettleLoop.{settle-same}
 use Rattle.changes.specs.Sounded.{Begun, Liftable, Ran}
 

@@ -1,15 +1,15 @@
 -- An add and a drop as wholes: from a sound rack to where their moves begin, and from there to the definition's run. Assumes nothing.
-use mathlib.Core.Path.{_≡_, refl, sym, ap, _∙_, subst}
+use mathlib.Core.Path.{_≡_, sym, ap, _∙_, subst}
 use mathlib.Core.Logic.{_≢_, inl, inr}
 use mathlib.Core.Bool.{Bool, true, false}
-use mathlib.Core.List.{List, []}
+use mathlib.Core.List.{List}
 use Prim.Native.Nat.{ℕ, suc, _-_, _≤_, _<_}
 use native.Mathlib.Omega.{arith}
-use lib.Dec.{T, eqb}
-use lib.ListN.{length, replicate}
+use lib.Dec.{T}
+use lib.ListN.{length}
 use Rattle.model.specs.State.{base, State, edge, pending}
 use Rattle.model.specs.Bytes.{read, write}
-use Rattle.model.specs.Moves.{Run, Found, none, found, part, promote, settle}
+use Rattle.model.specs.Moves.{none, found, part, promote, settle}
 use Rattle.model.specs.Change.{start, reown, withoutEdge, addEdge, riser, add, drop}
 use Rattle.model.proofs.Tests.{eq?, true-T, eqb-yes, eqb-no}
 use Rattle.theory.proofs.Takings.{pending-of}
@@ -20,8 +20,7 @@ use Rattle.moves.proofs.Held.{held-of, reads-as, valid-proper, valid-ordered}
 use Rattle.moves.proofs.Keeps.{part-proper}
 use Rattle.edges.proofs.Changed.{add-size, add-proper, drop-proper}
 use Rattle.settling.specs.declared.Tally.{Tally}
-use Rattle.settling.specs.Runs.{running, Waiting, Room, Left}
-use Rattle.settling.proofs.News.{Same}
+use Rattle.settling.specs.Runs.{running, Waiting, Left}
 use Rattle.changes.specs.Sounded.{Sounded, Begun, Liftable, Ran}
 use Rattle.changes.proofs.Begun.{still, add-still, add-ordered, drop-ordered, Riser, riser-of, parted-pending}
 use Rattle.changes.proofs.Chains.{begins, settled-same, ran-of}

@@ -1,6 +1,6 @@
 -- Two states that differ by one edge: what the edge adds to the counts of its ends and to the number of edges. It serves both ways, for the
 -- edge that is put in and for the one that is taken out. Assumes nothing.
-use mathlib.Core.Path.{_≡_, refl, sym, ap, ap₂, _∙_}
+use mathlib.Core.Path.{_≡_, sym, ap, ap₂, _∙_}
 use mathlib.Core.Logic.{_≢_, _⊎_, inl, inr}
 use mathlib.Core.Bool.{Bool, _&&_}
 use Prim.Native.Nat.{ℕ, suc, _+_, _≤_, _<_}
@@ -8,9 +8,10 @@ use native.Mathlib.Omega.{arith}
 use lib.Dec.{T, ltb, leb, lt→ltb, ltb→lt}
 use Rattle.model.specs.Counting.{sum, bit, count}
 use Rattle.model.specs.State.{State, edge, near, below, phi, edges}
-use Rattle.model.proofs.Tests.{le?, bool-ext, leb-yes, leb-no, and-intro, and-left, and-right}
-use Rattle.model.proofs.Counting.{sum-point, bit-yes, bit-no}
+use Rattle.model.proofs.Tests.{le?, bool-ext, and-intro, and-left, and-right}
+use Rattle.model.proofs.Counting.{sum-point, bit-yes, bit-no, count-at}
 use Rattle.model.proofs.Prefix.{count-ext}
+use Rattle.model.proofs.Limits.{phi-above, phi-zero}
 use Rattle.theory.proofs.EdgeChange.{Added, add-turn}
 use Rattle.moves.proofs.Edges.{edge-turn, near-of, near-edge, near-low}
 
@@ -35,20 +36,6 @@ joined-turn a b s t J = record {
   apart = λ e. J .apart (sym e);
   inside = (J .inside .1, J .inside .0);
 }
-
--- tests that agree but at k count the same but for k
-count-at : (p q : ℕ → Bool) (k n : ℕ) → k < n → ((v : ℕ) → v ≢ k → p v ≡ q v) → count p n + bit (q k) ≡ count q n + bit (p k)
-unfolding count
-count-at p q k n l f = sum-point (λ v. bit (p v)) (λ v. bit (q v)) k n l (λ v b d. ap bit (f v d))
-
--- a count, where the level is above the vertex's own and where it is not
-phi-above : (s : State) (v x : ℕ) → s .rank v ≤ x → phi s v x ≡ below s v x
-unfolding phi
-phi-above s v x h = rw (leb-yes (s .rank v) x h, phi) refl
-
-phi-zero : (s : State) (v x : ℕ) → x < s .rank v → phi s v x ≡ 0
-unfolding phi
-phi-zero s v x h = rw (leb-no (s .rank v) x h, phi) refl
 
 module _ (a b : ℕ) (s t : State) (J : Joined a b s t) where
   -- any other edge is there or not there in both

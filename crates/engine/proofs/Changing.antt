@@ -1,13 +1,13 @@
 -- A change of any bytes: turned back for the bytes, or a change of a sound rack. Assumes nothing.
 use mathlib.Core.Path.{_≡_, refl, sym, ap, _∙_, subst}
 use mathlib.Core.Logic.{_≢_}
-use mathlib.Core.List.{List, []}
+use mathlib.Core.List.{List}
 use Prim.Native.Nat.{ℕ}
 use native.Mathlib.Omega.{arith}
-use Rattle.model.specs.State.{base, State}
+use Rattle.model.specs.State.{base}
 use Rattle.model.specs.Bytes.{read, write}
-use Rattle.model.specs.Valid.{IsBytes, Valid}
-use Rattle.model.specs.Change.{Change, Changed, refused, change}
+use Rattle.model.specs.Valid.{IsBytes}
+use Rattle.model.specs.Change.{Change, refused, change}
 use Rattle.model.specs.Calls.{rackNumber, ChangedBytes, unchanged, changeBytes}
 use Rattle.model.proofs.Tests.{true-T, eqb-no}
 use Rattle.model.proofs.Bridge.{sound-valid}

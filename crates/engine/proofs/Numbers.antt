@@ -1,20 +1,18 @@
 -- The numbers of the calls, case by case: which is the first that fits. Assumes nothing.
-use mathlib.Core.Path.{_≡_, refl, sym, ap, _∙_, subst}
+use mathlib.Core.Path.{_≡_, refl, sym, _∙_}
 use mathlib.Core.Logic.{_≢_, inl, inr}
 use mathlib.Core.Bool.{Bool, true, false, not, _||_}
 use mathlib.Core.List.{List}
-use Prim.Native.Nat.{ℕ, zero, suc, _≤_, _<_}
+use Prim.Native.Nat.{ℕ, suc, _≤_, _<_}
 use native.Mathlib.Omega.{arith}
-use lib.Dec.{T, eqb, leb, ltb, eqb→eq}
-use lib.IntN.{pos, predℤ}
+use lib.Dec.{eqb→eq}
 use lib.ListN.{length}
-use Rattle.model.specs.Counting.{bit}
 use Rattle.model.specs.State.{base, edge, empty}
-use Rattle.model.specs.Bytes.{rackLength, most, sizeAt, rankAt, mateAt, ownsAt, read, write}
+use Rattle.model.specs.Bytes.{rackLength, most, sizeAt, ownsAt, read, write}
 use Rattle.model.specs.Sound.{sizeGood, sound}
-use Rattle.model.specs.Calls.{sized, rackNumber, makeNumber, made, audit, oneNumber, twoNumber, levelQuery, mateQuery, linkedQuery}
+use Rattle.model.specs.Calls.{sized, rackNumber, makeNumber, made, oneNumber, twoNumber}
 use Rattle.model.proofs.Tests.{le?, true-T, eqb-yes, eqb-no, leb-yes, leb-no}
-use Rattle.model.proofs.Facts.{sound-says, Facts}
+use Rattle.model.proofs.Facts.{sound-says}
 use Rattle.model.proofs.Reading.{read-owns}
 
 -- what a test of a negation says

@@ -1,16 +1,15 @@
 -- Demand 3 of `engine::change`: whatever series of calls is made from a sound rack, what they answer and leave is as it says, since each
 -- call meets the contract. Assumes nothing.
-use mathlib.Core.Path.{_≡_, refl, sym, ap, _∙_, subst}
+use mathlib.Core.Path.{_≡_, sym, subst}
 use mathlib.Core.List.{List, [], _∷_}
 use Prim.Native.Nat.{ℕ}
 use lib.Dec.{T}
 use Rattle.model.specs.State.{base}
 use Rattle.model.specs.Sound.{sound}
 use Rattle.model.specs.Valid.{IsBytes}
-use Rattle.model.specs.Change.{Change}
-use Rattle.model.specs.Calls.{sized, ChangedBytes, changeBytes}
+use Rattle.model.specs.Calls.{sized, changeBytes}
 use Rattle.model.specs.Ledger.{Ledger, ledgerOf, entered, enteredAll}
-use Rattle.theory.specs.Demand.{lastRack, Call, Calls, Facts, Demand}
+use Rattle.theory.specs.Demand.{lastRack, Call, Calls, Demand}
 use Rattle.theory.proofs.ListTheorem.{demand-three}
 use Rattle.engine.specs.Answers.{ChangeIs}
 use Rattle.engine.specs.Series.{Made, Series, asked, left, gave, Right, Kept}

@@ -3,7 +3,7 @@
 use mathlib.Core.List.{List, [], _∷_}
 use Prim.Native.Nat.{ℕ}
 use Rattle.model.specs.State.{base}
-use Rattle.model.specs.Change.{Change, Answer as AnswerOf}
+use Rattle.model.specs.Change.{Change}
 use Rattle.model.specs.Calls.{ChangedBytes, changeBytes}
 use Rattle.model.specs.Ledger.{Ledger, entered, enteredAll}
 use Rattle.theory.specs.Demand.{Call, Facts}

@@ -50,7 +50,7 @@ pub fn make(rack: &mut [u8], n: u32) -> u32
     if n == 0 {
         return 5;
     }
-    if layout::most() < n as usize {
+    if layout::MOST < n as usize {
         return 5;
     }
     layout::clear(rack, n as u16);

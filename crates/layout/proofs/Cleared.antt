@@ -1,16 +1,14 @@
 -- The bytes of a rack with no edge. Assumes nothing.
-use mathlib.Core.Path.{_≡_, refl, sym, ap, _∙_}
+use mathlib.Core.Path.{_≡_, refl, sym, _∙_}
 use mathlib.Core.Logic.{inl, inr}
-use mathlib.Core.Bool.{Bool, true, false}
-use mathlib.Core.List.{List, [], _∷_, _++_}
-use Prim.Native.Nat.{ℕ, _+_, _*_, _/_, _%_, _≤_, _<_}
-use native.Mathlib.Omega.{arith}
-use lib.Dec.{T, leb, ltb, T-not}
-use lib.ListN.{length, set, getD, replicate}
+use mathlib.Core.Bool.{false}
+use Prim.Native.Nat.{ℕ, _/_, _%_}
+use lib.Dec.{leb, ltb, T-not}
+use lib.ListN.{length, set, replicate}
 use borrow.Rule.Slice.PartMut.{midOf, putMid}
-use Rattle.model.specs.Counting.{sum, bit, count, eachOnto, each}
-use Rattle.model.specs.State.{State, edge, near, below, phi, edges, empty}
-use Rattle.model.specs.Bytes.{noMate, Fields, two, rowByte, image, mateEntry, fieldsOf, write}
+use Rattle.model.specs.Counting.{sum, eachOnto, each}
+use Rattle.model.specs.State.{edge, near, below, phi, edges, empty}
+use Rattle.model.specs.Bytes.{noMate, Fields, two, rowByte, image, fieldsOf, write}
 use Rattle.model.proofs.Tests.{bool?, T-true, T-false, and-right}
 use Rattle.model.proofs.Counting.{count-none, sum-eq, sum-zero}
 use Rattle.model.proofs.Limits.{mateEntry-free}

@@ -13,7 +13,7 @@ use Rattle.model.specs.Bytes.{ownsAt, Fields, two, rowByte, image}
 use Rattle.model.proofs.Tests.{eq?}
 use Rattle.model.proofs.Prefix.{count-ext}
 use Rattle.model.proofs.Lists.{upd-same, upd-other}
-use Rattle.model.proofs.Chunks.{behind, each-length, each-at, each-one-length, each-one-at}
+use Rattle.model.proofs.Chunks.{each-one-length}
 use Rattle.model.proofs.Fields.{heads, ranks, mates, phis, rows, parts, heads-length, ranks-length, mates-length, phis-length, row-byte, owns-image}
 use Rattle.layout.specs.Setters.{setTwo, setEdges, setRank, setMate, setPhi, own, disown}
 use Rattle.layout.specs.Rows.{degreeAt}

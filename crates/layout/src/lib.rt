@@ -41,13 +41,6 @@ fn join(lo: u8, hi: u8) -> u16
     lo as u16 + 256 * (hi as u16)
 }
 
-// The most vertices of a rack.
-pub fn most() -> usize
-    ensures { λ r. ⌜ r ≡ mostOf ⌝ }
-{
-    256
-}
-
 // Whether the bytes are as many as a rack has.
 pub fn sized(rack: &[u8]) -> bool
     ensures { λ r. ⌜ r ≡ sizedOf (now (rack .entry)) ⌝ }

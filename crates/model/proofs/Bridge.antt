@@ -8,7 +8,7 @@ use native.Mathlib.Omega.{arith}
 use lib.Dec.{T}
 use lib.ListN.{length}
 use Rattle.model.specs.State.{Rules, base, State, edge, phi, edges}
-use Rattle.model.specs.Bytes.{rackLength, most, noMate, sizeAt, rankAt, mateAt, phiAt, ownsAt, named, read, mateEntry, fieldsOf, write}
+use Rattle.model.specs.Bytes.{rackLength, noMate, sizeAt, rankAt, mateAt, phiAt, ownsAt, named, read, mateEntry, fieldsOf, write}
 use Rattle.model.specs.Sound.{sound}
 use Rattle.model.specs.Valid.{IsBytes, Valid}
 use Rattle.model.proofs.Tests.{eq?, le?, bool-ext, or-cases}

@@ -1,7 +1,7 @@
 -- Laws of sums and counts over the numbers below n. A count is a sum of 0s and 1s, so that every law of sums is a law of counts.
 -- Assumes nothing.
-use mathlib.Core.Path.{_≡_, refl, sym, subst}
-use mathlib.Core.Logic.{_≢_, _⊎_, inl, inr}
+use mathlib.Core.Path.{_≡_, refl, sym, ap, subst}
+use mathlib.Core.Logic.{_≢_, inl, inr}
 use mathlib.Core.Bool.{Bool, true, false, not, _&&_}
 use Prim.Native.Nat.{ℕ, zero, suc, _+_, _*_, _≤_, _<_}
 use native.Mathlib.Nat.{suc-mul, not-suc-le-zero}
@@ -71,6 +71,12 @@ pub bit-no : (b : Bool) → (T b → ⊥) → bit b ≡ 0
 bit-no true h = absurd (h tt)
 bit-no false h = refl
 
+-- the bit of the test on a digit is the digit
+pub bit-test : (d : ℕ) → d < 2 → bit (eqb d 1) ≡ d
+bit-test zero h = refl
+bit-test (suc zero) h = refl
+bit-test (suc (suc d)) h = absurd (omega arith)
+
 pub count-le : (p q : ℕ → Bool) (n : ℕ) → ((v : ℕ) → v < n → T (p v) → T (q v)) → count p n ≤ count q n
 unfolding count
 count-le p q n h = sum-le _ _ n (λ v b. bit-le (p v) (q v) (h v b))
@@ -86,6 +92,11 @@ count-le-one p q k n h = elim (le? n k) [
     sum-point-le (λ v. bit (p v)) (λ v. bit (q v)) k n l (λ v b d. bit-le (p v) (q v) (h v b d)),
   )
 ]
+
+-- tests that agree but at k count the same but for k
+pub count-at : (p q : ℕ → Bool) (k n : ℕ) → k < n → ((v : ℕ) → v ≢ k → p v ≡ q v) → count p n + bit (q k) ≡ count q n + bit (p k)
+unfolding count
+count-at p q k n l f = sum-point (λ v. bit (p v)) (λ v. bit (q v)) k n l (λ v b d. ap bit (f v d))
 
 -- one more at k
 pub count-more : (p q : ℕ → Bool) (k n : ℕ) → k < n → ((v : ℕ) → v < n → v ≢ k → T (p v) → T (q v)) → (T (p k) → ⊥) → T (q k)

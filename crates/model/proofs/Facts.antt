@@ -9,7 +9,7 @@ use lib.Dec.{T, leb, ltb, eqb, leb→le, le→leb, eqb→eq, not-T, T-not}
 use lib.ListN.{getD}
 use Rattle.model.specs.Counting.{every}
 use Rattle.model.specs.State.{Rules, edge, phi, edges}
-use Rattle.model.specs.Bytes.{most, noMate, sizeAt, edgesAt, rankAt, mateAt, phiAt, ownsAt, read}
+use Rattle.model.specs.Bytes.{noMate, sizeAt, edgesAt, rankAt, mateAt, phiAt, ownsAt, read}
 use Rattle.model.specs.Sound.{spareZero, unused, pastUnused, pastUnnamed, sizeGood, ranksGood, noLoop, ownedOnce, edgesRight, phiRight, ownerHigh, mated, matesGood, freeLow, phiLow, sound}
 use Rattle.model.proofs.Tests.{eqb-yes, true-T, and-intro, and-left, and-right}
 use Rattle.model.proofs.Counting.{every-all, all-every}

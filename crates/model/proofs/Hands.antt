@@ -1,9 +1,9 @@
 -- Document 01, "Where hands go wrong": a row for each slip, in which it would show. Computed from the definitions, as the bench cases are.
 -- Assumes nothing.
 use mathlib.Core.Path.{_≡_, refl}
-use mathlib.Core.Bool.{Bool, true, false, _&&_, _||_, cond}
+use mathlib.Core.Bool.{_&&_, _||_, cond}
 use mathlib.Core.List.{List, [], _∷_, map}
-use Prim.Native.Nat.{ℕ, suc, _+_, _-_, _%_}
+use Prim.Native.Nat.{ℕ, _+_, _-_, _%_}
 use lib.Dec.{eqb, leb, ltb}
 use Rattle.model.specs.State.{State}
 use Rattle.model.specs.Change.{Change}

@@ -1,4 +1,5 @@
--- What follows at once for a valid state: nothing from n on, and every number fits its place in the bytes. Assumes nothing.
+-- What follows at once for the counts of a state, and for a valid state: nothing from n on, and every number fits its place in the bytes.
+-- Assumes nothing.
 use mathlib.Core.Path.{_≡_, refl}
 use mathlib.Core.Logic.{_≢_, inl, inr}
 use mathlib.Core.Bool.{Bool, true, false, _&&_}
@@ -7,9 +8,9 @@ use native.Mathlib.Omega.{arith}
 use lib.Dec.{T, leb, ltb, leb→le}
 use Rattle.model.specs.Counting.{count}
 use Rattle.model.specs.State.{Rules, State, edge, near, below, phi, edges}
-use Rattle.model.specs.Bytes.{most, noMate, mateEntry}
+use Rattle.model.specs.Bytes.{noMate, mateEntry}
 use Rattle.model.specs.Valid.{Valid}
-use Rattle.model.proofs.Tests.{eq?, le?, eqb-yes, eqb-no, and-left, or-cases}
+use Rattle.model.proofs.Tests.{eq?, le?, eqb-yes, eqb-no, leb-yes, leb-no, and-left, or-cases}
 use Rattle.model.proofs.Counting.{sum-bound, count-none, count-miss}
 
 pick-le : (b : Bool) (x : ℕ) → elim b as (λ y. ℕ) [ true ↦ x | false ↦ 0 ] ≤ x
@@ -19,6 +20,15 @@ pick-le false x = omega arith
 pub phi-below : (s : State) (v j : ℕ) → phi s v j ≤ below s v j
 unfolding phi
 phi-below s v j = pick-le (leb (s .rank v) j) (below s v j)
+
+-- a count, where the level is above the vertex's own and where it is not
+pub phi-above : (s : State) (v j : ℕ) → s .rank v ≤ j → phi s v j ≡ below s v j
+unfolding phi
+phi-above s v j h = rw (leb-yes (s .rank v) j h, phi) refl
+
+pub phi-zero : (s : State) (v j : ℕ) → j < s .rank v → phi s v j ≡ 0
+unfolding phi
+phi-zero s v j h = rw (leb-no (s .rank v) j h, phi) refl
 
 -- no edge is counted at its own end, so each vertex counts at most 255 and there are fewer than 65,536 in all
 pub edges-few : (s : State) → s .n ≤ 256 → edges s < 65536

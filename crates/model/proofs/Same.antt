@@ -7,7 +7,7 @@ use native.Mathlib.Omega.{arith}
 use lib.ListN.{length, getD, replicate}
 use lib.Seq.{ext-getD}
 use Rattle.model.specs.Counting.{eachOnto, each}
-use Rattle.model.specs.Bytes.{rackLength, most, twoAt, sizeAt, edgesAt, rankAt, mateAt, phiAt, bitOf, ownsAt, Fields, two, rowByte, image}
+use Rattle.model.specs.Bytes.{rackLength, twoAt, sizeAt, edgesAt, rankAt, mateAt, phiAt, bitOf, ownsAt, Fields, two, rowByte, image}
 use Rattle.model.specs.Valid.{IsBytes}
 use Rattle.model.proofs.Tests.{eq?, le?}
 use Rattle.model.proofs.Chunks.{byte-ext, rowByte-small}

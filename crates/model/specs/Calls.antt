@@ -1,12 +1,12 @@
 -- Document 01, "Turned back, first fit first": what each call on rack bytes answers, and every byte that it leaves. Assumes nothing.
-use mathlib.Core.Bool.{Bool, true, false, not, _||_}
+use mathlib.Core.Bool.{Bool, true, false}
 use mathlib.Core.List.{List, []}
 use Prim.Native.Nat.{ℕ}
 use lib.Dec.{eqb, ltb}
 use lib.IntN.{ℤ, pos, predℤ}
 use lib.ListN.{length}
 use Rattle.model.specs.Counting.{bit}
-use Rattle.model.specs.State.{Rules, State, edge, empty}
+use Rattle.model.specs.State.{Rules, edge, empty}
 use Rattle.model.specs.Bytes.{rackLength, rankAt, mateAt, sizeAt, read, write}
 use Rattle.model.specs.Sound.{sizeGood, sound}
 use Rattle.model.specs.Moves.{Ends}

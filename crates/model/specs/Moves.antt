@@ -1,6 +1,6 @@
 -- Document 01, "Elementary moves" and "The settling". A level i is a number from 0 on; a vertex at level i has rank i + 1.
 -- Assumes nothing.
-use mathlib.Core.Bool.{Bool, true, false, not, _&&_, _||_}
+use mathlib.Core.Bool.{Bool, true, false, not, _&&_}
 use mathlib.Core.List.{List, [], _∷_}
 use Prim.Native.Nat.{ℕ, zero, suc, _*_, _%_}
 use lib.Dec.{eqb, leb}

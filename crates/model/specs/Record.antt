@@ -1,11 +1,11 @@
 -- Document 01, "Trace and record": the record of a trace, to the byte. Assumes nothing.
-use mathlib.Core.Bool.{Bool, true, false}
+use mathlib.Core.Bool.{true, false}
 use mathlib.Core.List.{List, [], _∷_, _++_}
 use Prim.Native.Nat.{ℕ, _-_}
 use lib.Dec.{eqb, ltb}
 use Rattle.model.specs.Counting.{listed}
 use Rattle.model.specs.State.{Rules, State, pairs, empty}
-use Rattle.model.specs.Change.{Change, Answer, Changed, change}
+use Rattle.model.specs.Change.{Change, Answer, change}
 use Rattle.model.specs.Text.{bytes, decimal, texts}
 use Rattle.model.specs.Trace.{Trace, rackLine}
 

@@ -5,7 +5,7 @@ use Prim.Native.Nat.{ℕ, suc, _+_}
 use lib.Dec.{leb, ltb, eqb}
 use lib.ListN.{getD}
 use Rattle.model.specs.Counting.{every}
-use Rattle.model.specs.State.{Rules, State, edge, phi, edges}
+use Rattle.model.specs.State.{Rules, edge, phi, edges}
 use Rattle.model.specs.Bytes.{most, noMate, sizeAt, edgesAt, rankAt, mateAt, phiAt, ownsAt, read}
 
 -- "bytes 4 to 7 are zero"

@@ -1,7 +1,7 @@
 -- Document 01, "Words of the rack": what a rack holds, free of its bytes. A board is a vertex, a link an edge, an idle vertex is free,
 -- a waiting one is pending. Assumes nothing.
 use mathlib.Core.Bool.{Bool, true, false, _&&_, _||_}
-use Prim.Native.Nat.{ℕ, suc, _*_, _^_}
+use Prim.Native.Nat.{ℕ, suc, _^_}
 use lib.Dec.{leb, ltb, eqb}
 use Rattle.model.specs.Counting.{sum, count}
 

@@ -1,22 +1,22 @@
 -- A walk along a vertex's row that gives each vertex met its new counts, with the rest of the bytes as they were. Assumes nothing.
 use mathlib.Core.Path.{_≡_, refl, sym, ap, _∙_, subst}
 use mathlib.Core.Logic.{_≢_, inl, inr}
-use mathlib.Core.Bool.{Bool, _&&_}
 use mathlib.Core.List.{List}
 use Prim.Native.Nat.{ℕ, suc, _+_, _-_, _≤_, _<_}
 use native.Mathlib.Omega.{arith}
-use lib.Dec.{T, leb, eqb, leb→le, le→leb, eqb→eq}
+use lib.Dec.{T, leb, leb→le}
 use lib.ListN.{length}
 use Rattle.model.specs.Counting.{upd}
 use Rattle.model.specs.State.{State, edge, near, phi}
 use Rattle.model.specs.Bytes.{rankAt, phiAt, ownsAt, image, fieldsOf, write}
-use Rattle.model.proofs.Tests.{eq?, le?, T-true, T-false, true-T, and-intro, and-left, and-right, eqb-yes}
+use Rattle.model.proofs.Tests.{eq?, le?, and-right}
 use Rattle.model.proofs.Lists.{upd-same, upd-other}
 use Rattle.model.proofs.Fields.{image-length, rank-image, phi-image, owns-image}
 use Rattle.layout.specs.Setters.{Sized, setPhi}
 use Rattle.moves.specs.Proper.{Proper, RowBelow}
-use Rattle.moves.specs.Counts.{withCounts, loweredFrom, hit, loweredCounts, raisedCounts}
+use Rattle.moves.specs.Counts.{withCounts, loweredFrom, loweredCounts, raisedCounts}
 use Rattle.moves.proofs.Held.{NextIn}
+use Rattle.moves.proofs.Choices.{hit-says, hit-of, lowered-yes, lowered-no, raised-yes, raised-no}
 use Rattle.moves.proofs.CountSteps.{counts-ext, lowered-image, setCount-image}
 
 -- ---- bytes that are the writing of s but for the counts
@@ -110,19 +110,6 @@ row-kept f w row x j d = elim (eq? x w) [
 
 -- ---- counts that are raised at i
 
-raised-yes : (s : State) (i v w j : ℕ) → T (s .owns v w) → j ≡ i → raisedCounts s i v w j ≡ suc (phi s w j)
-unfolding raisedCounts
-raised-yes s i v w j t e =
-    let b : Bool = s .owns v w && eqb j i in
-    rw (T-true {b = b} (and-intro (s .owns v w) (eqb j i) t (true-T (eqb-yes j i e))), raisedCounts) refl
-
-raised-no : (s : State) (i v w j : ℕ) → (T (s .owns v w) → j ≢ i) → raisedCounts s i v w j ≡ phi s w j
-unfolding raisedCounts
-raised-no s i v w j d =
-    let b : Bool = s .owns v w && eqb j i in
-    let no : T b → ⊥ = λ t. d (and-left (s .owns v w) (eqb j i) t) (eqb→eq j i (and-right (s .owns v w) (eqb j i) t)) in
-    rw (T-false {b = b} no, raisedCounts) refl
-
 pub raised-quiet : (s : State) (i v : ℕ) → Quiet s (raisedCounts s i v) v
 raised-quiet s i v x j d = raised-no s i v x j (λ t. absurd (d t))
 
@@ -142,41 +129,13 @@ raised-turn s i v bs w k next y l b t e f =
 
 -- ---- counts that are lowered from the higher of two ranks up to i
 
-lowered-yes : (s : State) (i u w j : ℕ) → T (hit s i u w j) → loweredCounts s i u w j ≡ phi s w j - 1
-unfolding loweredCounts
-lowered-yes s i u w j t = rw (T-true {b = hit s i u w j} t, loweredCounts) refl
-
-lowered-no : (s : State) (i u w j : ℕ) → (T (hit s i u w j) → ⊥) → loweredCounts s i u w j ≡ phi s w j
-unfolding loweredCounts
-lowered-no s i u w j d = rw (T-false {b = hit s i u w j} d, loweredCounts) refl
-
-module _ (s : State) (i u w j : ℕ) where
-  pub hit-of : T (s .owns u w) → s .rank u ≤ j → s .rank w ≤ j → j ≤ i → T (hit s i u w j)
-  unfolding hit
-  hit-of t a b c =
-      and-intro (s .owns u w) _ t
-      (and-intro (leb (s .rank u) j) _ (le→leb _ _ a) (and-intro (leb (s .rank w) j) _ (le→leb _ _ b) (le→leb _ _ c)))
-
-  hit-owns : T (hit s i u w j) → T (s .owns u w)
-  unfolding hit
-  hit-owns t = and-left (s .owns u w) _ t
-
-  hit-ranks : T (hit s i u w j) → (s .rank u ≤ j) × ((s .rank w ≤ j) × (j ≤ i))
-  unfolding hit
-  hit-ranks t =
-      let r = and-right (s .owns u w) _ t in
-      let q = and-right (leb (s .rank u) j) _ r in (
-        leb→le _ _ (and-left (leb (s .rank u) j) _ r),
-        (leb→le _ _ (and-left (leb (s .rank w) j) _ q), leb→le _ _ (and-right (leb (s .rank w) j) _ q)),
-      )
-
 -- a vertex to which u owns an edge is below level i, if u's row is that of its neighbours there
 pub row-low : (s : State) (i u w : ℕ) → RowBelow i u s → T (s .owns u w) → s .rank w ≤ i
 unfolding near
 row-low s i u w row t = leb→le _ _ (and-right (edge s u w) (leb (s .rank w) i) (subst T (row w) t))
 
 pub lowered-quiet : (s : State) (i u : ℕ) → Quiet s (loweredCounts s i u) u
-lowered-quiet s i u x j d = lowered-no s i u x j (λ t. d (hit-owns s i u x j t))
+lowered-quiet s i u x j d = lowered-no s i u x j (λ t. d (hit-says s i u x j t .owned))
 
 -- the counts of one vertex lowered
 pub lowered-turn : (s : State) (i u : ℕ) (bs : List ℕ) (w : ℕ) (k : Walked s (loweredCounts s i u) u bs w) (next : List ℕ)
@@ -186,10 +145,9 @@ unfolding withCounts
 lowered-turn s i u bs w k next l b t j h₁ h₂ least h₃ f =
     let new : ℕ → ℕ = loweredCounts s i u w in
     let old : (x : ℕ) → k .counts w x ≡ phi s w x = λ x. k .left w x (omega arith) in
-    let ranks : (x : ℕ) → T (hit s i u w x) → (s .rank u ≤ x) × ((s .rank w ≤ x) × (x ≤ i)) = hit-ranks s i u w in
     f ∙ ap (λ (x : List ℕ). loweredFrom x w j (i + 1 - j)) (k .is)
     ∙ lowered-image (withCounts (fieldsOf s) (k .counts)) w j (i + 1 - j) (upd (k .counts) w new) l (omega arith)
     (λ x p q. row-at (k .counts) w new x ∙ lowered-yes s i u w x (hit-of s i u w x t (omega arith) (omega arith) (omega arith))
     ∙ ap (λ (z : ℕ). z - 1) (sym (old x)))
     (λ v x d. row-kept (k .counts) w new v x
-    (λ e. lowered-no s i u w x (λ h. d e (least x (ranks x h .0) (ranks x h .1 .0)) (omega (arith, ranks x h .1 .1))) ∙ sym (old x)))
+    (λ e. lowered-no s i u w x (λ t. let h = hit-says s i u w x t in d e (least x (h .from) (h .seen)) (omega (arith, h .upto))) ∙ sym (old x)))

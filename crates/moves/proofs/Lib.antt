@@ -2,6 +2,7 @@
 pub mod Edges
 pub mod Held
 pub mod Keeps
+pub mod Choices
 pub mod Recount
 pub mod CountSteps
 pub mod CountWalk

@@ -3,34 +3,21 @@
 use mathlib.Core.Path.{_≡_, refl, sym, ap, ap₂, _∙_, subst, fun-ext}
 use mathlib.Core.Logic.{_≢_, inl, inr}
 use mathlib.Core.Bool.{Bool, _&&_}
-use Prim.Native.Nat.{ℕ, suc, _+_, _-_, _≤_, _<_}
+use Prim.Native.Nat.{ℕ, suc, _+_, _≤_, _<_}
 use native.Mathlib.Omega.{arith}
-use lib.Dec.{T, leb, ltb, eqb, leb→le, le→leb, eqb→eq}
+use lib.Dec.{T, leb, ltb, eqb, eqb→eq}
 use Rattle.model.specs.Counting.{sum, bit, count}
 use Rattle.model.specs.State.{State, edge, near, below, phi, edges}
-use Rattle.model.proofs.Tests.{eq?, le?, holds?, bool-ext, T-true, T-false, true-T, eqb-yes, leb-yes, leb-no, and-intro, and-left, and-right}
-use Rattle.model.proofs.Counting.{sum-point, bit-yes, bit-no, count-some, count-miss}
+use Rattle.model.proofs.Tests.{eq?, le?, holds?, bool-ext, true-T, eqb-yes, and-intro, and-left, and-right}
+use Rattle.model.proofs.Counting.{bit-yes, bit-no, count-at, count-some, count-miss}
 use Rattle.model.proofs.Prefix.{count-ext}
 use Rattle.model.proofs.Lists.{upd-same, upd-other}
-use Rattle.model.proofs.Limits.{phi-below, phi-none}
+use Rattle.model.proofs.Limits.{phi-below, phi-above, phi-zero, phi-none}
 use Rattle.moves.specs.Proper.{Proper, ranked, RowBelow}
 use Rattle.moves.specs.Counts.{hit, loweredCounts, raisedCounts}
 use Rattle.moves.proofs.Edges.{edge-back, edge-turn, near-of, near-edge, near-low, edge-loop}
+use Rattle.moves.proofs.Choices.{Hit, hit-says, hit-of, lowered-yes, lowered-no, raised-yes, raised-no}
 use Rattle.moves.proofs.Keeps.{ranked-near, ranked-row, ranked-proper}
-
--- tests that agree but at k count the same but for k
-count-at : (p q : ℕ → Bool) (k n : ℕ) → k < n → ((v : ℕ) → v ≢ k → p v ≡ q v) → count p n + bit (q k) ≡ count q n + bit (p k)
-unfolding count
-count-at p q k n l f = sum-point (λ v. bit (p v)) (λ v. bit (q v)) k n l (λ v b d. ap bit (f v d))
-
--- a count, where the level is above the vertex's own and where it is not
-phi-above : (s : State) (v j : ℕ) → s .rank v ≤ j → phi s v j ≡ below s v j
-unfolding phi
-phi-above s v j h = rw (leb-yes (s .rank v) j h, phi) refl
-
-phi-zero : (s : State) (v j : ℕ) → j < s .rank v → phi s v j ≡ 0
-unfolding phi
-phi-zero s v j h = rw (leb-no (s .rank v) j h, phi) refl
 
 -- counts and the number of edges depend on edges and ranks alone
 pub same-phi : (s t : State) → s .n ≡ t .n → ((v w : ℕ) → edge s v w ≡ edge t v w) → ((v : ℕ) → s .rank v ≡ t .rank v)
@@ -48,50 +35,6 @@ pub same-edges : (s t : State) → s .n ≡ t .n → ((v w : ℕ) → edge s v w
 unfolding edges
 same-edges s t e f =
     ap₂ (λ (n : ℕ) (there : ℕ → ℕ → Bool). sum (λ v. count (λ w. ltb v w && there v w) n) n) e (fun-ext (λ v. fun-ext (λ w. f v w)))
-
--- the choices of the counts' definitions
-lowered-yes : (s : State) (i u w j : ℕ) → T (hit s i u w j) → loweredCounts s i u w j ≡ phi s w j - 1
-unfolding loweredCounts
-lowered-yes s i u w j t = rw (T-true {b = hit s i u w j} t, loweredCounts) refl
-
-lowered-no : (s : State) (i u w j : ℕ) → (T (hit s i u w j) → ⊥) → loweredCounts s i u w j ≡ phi s w j
-unfolding loweredCounts
-lowered-no s i u w j t = rw (T-false {b = hit s i u w j} t, loweredCounts) refl
-
-raised-yes : (s : State) (i v w j : ℕ) → T (s .owns v w) → j ≡ i → raisedCounts s i v w j ≡ suc (phi s w j)
-unfolding raisedCounts
-raised-yes s i v w j t e = rw (T-true {b = s .owns v w} t, eqb-yes j i e, raisedCounts) refl
-
-raised-no : (s : State) (i v w j : ℕ) → (T (s .owns v w) → j ≡ i → ⊥) → raisedCounts s i v w j ≡ phi s w j
-unfolding raisedCounts
-raised-no s i v w j h =
-    rw (T-false {b = s .owns v w && eqb j i} (λ t. h (and-left (s .owns v w) _ t) (eqb→eq j i (and-right (s .owns v w) _ t))), raisedCounts) refl
-
--- what a hit says
-record Hit (s : State) (i u w j : ℕ) : Type 0 where
-  owned : T (s .owns u w)
-  from : s .rank u ≤ j
-  seen : s .rank w ≤ j
-  upto : j ≤ i
-
-hit-says : (s : State) (i u w j : ℕ) → T (hit s i u w j) → Hit s i u w j
-unfolding hit
-hit-says s i u w j t =
-    let a = and-right (s .owns u w) _ t in
-    let b = and-right (leb (s .rank u) j) _ a in
-    record {
-      owned = and-left (s .owns u w) _ t;
-      from = leb→le (s .rank u) j (and-left (leb (s .rank u) j) _ a);
-      seen = leb→le (s .rank w) j (and-left (leb (s .rank w) j) _ b);
-      upto = leb→le j i (and-right (leb (s .rank w) j) _ b);
-    }
-
-hit-of : (s : State) (i u w j : ℕ) → Hit s i u w j → T (hit s i u w j)
-unfolding hit
-hit-of s i u w j h =
-    and-intro (s .owns u w) _ (h .owned)
-    (and-intro (leb (s .rank u) j) _ (le→leb (s .rank u) j (h .from))
-    (and-intro (leb (s .rank w) j) _ (le→leb (s .rank w) j (h .seen)) (le→leb j i (h .upto))))
 
 -- A vertex u goes to rank x.
 module _ (s : State) (u x : ℕ) where
@@ -176,12 +119,9 @@ module _ (s : State) (p : Proper s) where
             let same : near s w j u ≡ near (ranked u (suc i) s) w j u =
             bool-ext (near s w j u) (near (ranked u (suc i) s) w j u)
             (λ b. near-ranked s u (suc i) w j (near-edge s w j u b) (elim (le? j i) [
-              | inl q ↦ absurd (t (hit-of s i u w j (record {
-                owned = subst T (sym (f w)) (near-of s u i w (edge-turn s w u (near-edge s w j u b)) (omega arith));
-                from = near-low s w j u b;
-                seen = seen;
-                upto = q;
-              })))
+              | inl q ↦ absurd (t (hit-of s i u w j
+                  (subst T (sym (f w)) (near-of s u i w (edge-turn s w u (near-edge s w j u b)) (omega arith)))
+                  (near-low s w j u b) seen q))
               | inr q ↦ q
             ]))
             (λ b. near-of s w j u (ranked-is-near s u (suc i) w j b .0) (omega (arith, ranked-is-near s u (suc i) w j b .1))) in

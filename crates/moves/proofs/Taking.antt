@@ -12,10 +12,11 @@ use Rattle.model.specs.Counting.{bit, count}
 use Rattle.model.specs.State.{State, edge, near, below, phi}
 use Rattle.model.specs.Bytes.{rankAt, ownsAt, image, write}
 use Rattle.model.specs.Moves.{ownedBy}
-use Rattle.model.proofs.Tests.{holds?, T-true, T-false, leb-yes, and-intro, and-left, and-right, or-cases, or-left, or-right}
+use Rattle.model.proofs.Tests.{holds?, T-true, T-false, and-intro, and-left, and-right, or-cases, or-left, or-right}
 use Rattle.model.proofs.Counting.{sum-eq, sum-add, bit-yes, bit-no}
 use Rattle.model.proofs.Prefix.{count-zero, count-suc, count-mono, count-step}
 use Rattle.model.proofs.Fields.{image-length, rank-image, owns-image}
+use Rattle.model.proofs.Limits.{phi-above}
 use Rattle.theory.proofs.Ownership.{out, back, rest, turned}
 use Rattle.theory.proofs.HandLoops.{upTo, owned-zero, owned-no, owned-yes, owned-all}
 use Rattle.layout.specs.Setters.{Sized, own, disown}
@@ -90,11 +91,10 @@ module _ {s : State} {i u : ℕ} (q : Riser s i u) where
   ]
 
   pub owed-count : s .rank u ≤ i → phi s u i ≡ count (s .owns u) (s .n) + count (owed s i u) (s .n)
-  unfolding phi below count
+  unfolding below count
   owed-count h =
-      rw (leb-yes (s .rank u) i h, phi)
-      (sum-eq _ (λ w. bit (s .owns u w) + bit (owed s i u w)) (s .n) (λ w b. near-bit w)
-      ∙ sum-add (λ w. bit (s .owns u w)) (λ w. bit (owed s i u w)) (s .n))
+      phi-above s u i h ∙ sum-eq _ (λ w. bit (s .owns u w) + bit (owed s i u w)) (s .n) (λ w b. near-bit w)
+      ∙ sum-add (λ w. bit (s .owns u w)) (λ w. bit (owed s i u w)) (s .n)
 
   -- taking what is owed is taking every edge to a vertex below i: the others are u's already
   taken-all : ownedBy u (owed s i u) true (s .owns) ≡ ownedBy u (near s u i) true (s .owns)

@@ -1,7 +1,7 @@
 -- Counts while a vertex changes its rank: the steps on the bytes, and the counts that they lead to. Assumes nothing.
 use mathlib.Core.Bool.{Bool, true, false, _&&_}
 use mathlib.Core.List.{List}
-use Prim.Native.Nat.{ℕ, zero, suc, _+_, _-_}
+use Prim.Native.Nat.{ℕ, zero, suc, _-_}
 use lib.Dec.{leb, eqb}
 use Rattle.model.specs.State.{State, phi}
 use Rattle.model.specs.Bytes.{Fields, phiAt}

@@ -18,11 +18,11 @@ pub fn part(rack: &mut [u8], v: usize)
     ensures { λ _. ⌜ now (rack .exit) ≡ write (parted v (read (now (rack .entry)))) ⌝ }
 {
     let m = layout::mate(rack, v);
-    if m == 65535 {
+    if m == layout::NO_MATE {
         return;
     }
-    layout::set_mate(rack, m as usize, 65535);
-    layout::set_mate(rack, v, 65535);
+    layout::set_mate(rack, m as usize, layout::NO_MATE);
+    layout::set_mate(rack, v, layout::NO_MATE);
 }
 
 // u and y are mates.

@@ -1,17 +1,15 @@
 -- What the code reads of a rack that holds a proper state: a vertex's mate, the number of vertices to draw among, and the chosen one.
 -- Assumes nothing.
 use mathlib.Core.Path.{_≡_, sym, ap, _∙_, subst}
-use mathlib.Core.Logic.{_≢_, inl, inr}
+use mathlib.Core.Logic.{_≢_}
 use mathlib.Core.List.{List}
 use Prim.Native.Nat.{ℕ, _%_, _<_}
-use native.Mathlib.Omega.{arith}
 use lib.Dec.{T}
 use lib.ListN.{getD}
 use Rattle.model.specs.Counting.{count}
 use Rattle.model.specs.State.{State, near, below}
-use Rattle.model.specs.Bytes.{mateAt, read}
+use Rattle.model.specs.Bytes.{noMate, mateAt, read}
 use Rattle.model.specs.Moves.{place, chosen}
-use Rattle.model.proofs.Tests.{eq?}
 use Rattle.model.proofs.Prefix.{count-ext}
 use Rattle.model.proofs.Limits.{mateEntry-free, mateEntry-mate}
 use Rattle.theory.proofs.Loops.{chosen-at}
@@ -19,30 +17,22 @@ use Rattle.bitset.specs.Row.{inserted}
 use Rattle.layout.specs.Rows.{degreeAt, NthOwned}
 use Rattle.moves.specs.Proper.{Held, RowBelow}
 use Rattle.moves.proofs.Held.{held-mate, held-owns, held-degree, held-small, nth-in}
+use Rattle.moves.proofs.Pairs.{entry-free as entry-alone}
 use Rattle.settling.specs.Runs.{running, noted}
 use Rattle.settling.specs.declared.Tally.{Tally}
 use Rattle.settling.proofs.Waits.{noted-paired}
 
 module _ (bs : List ℕ) (h : Held bs) (v : ℕ) (l : v < read bs .n) where
   -- the entry for no mate, and any other
-  pub entry-free : (m : ℕ) → m ≡ mateAt bs v → m ≡ 65535 → read bs .mate v ≡ v
-  entry-free m e f = elim (eq? (read bs .mate v) v) [
-    | inl q ↦ q
-    | inr d ↦ absurd (omega (
-      arith,
-      held-mate h v (held-small h v l),
-      mateEntry-mate (read bs) v d,
-      h .proper .few,
-      h .proper .mates v l,
-    ))
-  ]
+  pub entry-free : (m : ℕ) → m ≡ mateAt bs v → m ≡ noMate → read bs .mate v ≡ v
+  entry-free m e f = entry-alone (read bs) (h .proper) v l (sym (held-mate h v (held-small h v l)) ∙ sym e ∙ f)
 
-  pub entry-paired : (m : ℕ) → m ≡ mateAt bs v → m ≢ 65535 → (read bs .mate v ≢ v) × (m ≡ read bs .mate v)
+  pub entry-paired : (m : ℕ) → m ≡ mateAt bs v → m ≢ noMate → (read bs .mate v ≢ v) × (m ≡ read bs .mate v)
   entry-paired m e f =
       let d : read bs .mate v ≢ v = λ q. f (e ∙ held-mate h v (held-small h v l) ∙ mateEntry-free (read bs) v q) in
       (d, e ∙ held-mate h v (held-small h v l) ∙ mateEntry-mate (read bs) v d)
 
-  pub entry-noted : (row : List ℕ) (m : ℕ) → m ≡ mateAt bs v → m ≢ 65535 → inserted row m ≡ noted (read bs) row v
+  pub entry-noted : (row : List ℕ) (m : ℕ) → m ≡ mateAt bs v → m ≢ noMate → inserted row m ≡ noted (read bs) row v
   entry-noted row m e f = let p = entry-paired m e f in ap (inserted row) (p .1) ∙ sym (noted-paired (read bs) row v (p .0))
 
 -- a row of exactly the neighbours below the level is as long as they are many

@@ -9,12 +9,13 @@ use Rattle.model.specs.State.{base, State}
 use Rattle.model.specs.Bytes.{noMate, rankAt, mateAt, read}
 use Rattle.model.specs.Moves.{pick, none, found}
 use Rattle.model.proofs.Tests.{eq?, le?}
-use Rattle.model.proofs.Limits.{mateEntry-free, mateEntry-mate}
+use Rattle.model.proofs.Limits.{mateEntry-free}
 use Rattle.theory.proofs.Takings.{pending-of}
 use Rattle.theory.proofs.Loops.{pick-nothing, pick-found}
 use Rattle.bitset.specs.Row.{Next}
 use Rattle.moves.specs.Proper.{Proper, Held}
 use Rattle.moves.proofs.Held.{held-rank, held-mate, held-small}
+use Rattle.moves.proofs.Pairs.{entry-free as entry-alone}
 use Rattle.settling.specs.Runs.{Waiting}
 
 -- `at` is the first free vertex of rank best
@@ -98,12 +99,7 @@ module _ {bs row : List ℕ} {best at v r : ℕ} (t : Turn bs row best at v r) w
   free-entry f = held-mate (t .held) v small ∙ mateEntry-free (read bs) v f
 
   entry-free : mateAt bs v ≡ noMate → read bs .mate v ≡ v
-  entry-free e = elim (eq? (read bs .mate v) v) [
-    | inl f ↦ f
-    | inr d ↦
-        let p = t .held .proper in
-        absurd (omega (arith, held-mate (t .held) v small, mateEntry-mate (read bs) v d, p .mates v (t .inside), p .few))
-  ]
+  entry-free e = entry-alone (read bs) (t .held .proper) v (t .inside) (sym (held-mate (t .held) v small) ∙ e)
 
   rank-is : rankAt bs v ≡ read bs .rank v
   rank-is = held-rank (t .held) v small

@@ -14,12 +14,10 @@ use Rattle.moves.specs.Proper.{Proper, Ordered, Held}
 use Rattle.moves.proofs.Held.{reads-as, held-of, held-size}
 use Rattle.settling.specs.declared.Tally.{Tally}
 use Rattle.settling.specs.Runs.{running, Waiting, Room, Left}
+use Rattle.settling.proofs.News.{same-then}
 use Rattle.settling.proofs.Kept.{Kept, Same, take-kept, take-room, take-same}
 
 -- Runs that differ in their new pairs alone settle alike: the pick sees the state alone.
-same-trans : {r q p : Run} → Same r q → Same q p → Same r p
-same-trans a b = record { state = a .state ∙ b .state; draws = a .draws ∙ b .draws; falls = a .falls ∙ b .falls }
-
 pub settle-same : (words : List ℕ) (f : ℕ) (r q : Run) → Same r q → Same (settleIn base words f r) (settleIn base words f q)
 unfolding settleIn
 settle-same words zero r q s = s
@@ -114,7 +112,7 @@ module _ {words : List ℕ} {r : Run} {bs row : List ℕ} {left : ℕ} {t : Tall
         held = held-of bs₁ (q .state) (l .rack) (h .proper);
         ordered = subst Ordered (sym z) (h .ordered);
         waiting = subst (Waiting row₁) (sym z) (l .waiting);
-        ahead = same-trans (settle-same words k (running bs₁ t₁) q s) (rw (n, settle-step base words k i v (running bs t) e) at (g .ahead));
+        ahead = same-then (settle-same words k (running bs₁ t₁) q s) (rw (n, settle-step base words k i v (running bs t) e) at (g .ahead));
         draws = omega (arith, l .draws, m .0, g .draws);
         falls = omega (arith, l .falls, m .1, g .falls);
       }

@@ -69,7 +69,7 @@ pub fn note_mate(rack: &[u8], waiting: &mut [u8], v: usize)
     ensures { λ _. ⌜ now (waiting .exit) ≡ noted (read (now (rack .entry))) (now (waiting .entry)) v ⌝ }
 {
     let m = layout::mate(rack, v);
-    if m == 65535 {
+    if m == layout::NO_MATE {
         return;
     }
     bitset::insert(waiting, m as usize);
@@ -219,7 +219,7 @@ fn pick(rack: &[u8], waiting: &[u8]) -> Choice
     while v < n {
         let r = layout::rank(rack, v);
         if best < r {
-            if layout::mate(rack, v) == 65535 {
+            if layout::mate(rack, v) == layout::NO_MATE {
                 best = r;
                 at = v;
             }

@@ -10,8 +10,9 @@ use lib.Dec.{T}
 use Rattle.model.specs.Counting.{upd, count}
 use Rattle.model.specs.State.{State, near, below, phi, edge}
 use Rattle.model.specs.Moves.{at, Run, ownedBy, part, rise, marry, handOver, fall}
-use Rattle.model.proofs.Tests.{eq?, leb-yes}
+use Rattle.model.proofs.Tests.{eq?}
 use Rattle.model.proofs.Lists.{upd-same, upd-other}
+use Rattle.model.proofs.Limits.{phi-above}
 use Rattle.theory.proofs.Marks.{marks, Setting, setting, rules, Simple, nearIn, belowIn, near-of, near-edge, near-low, Lift, Pair, Fall}
 use Rattle.theory.proofs.Ownership.{Owns, rise-owns, hand-owns, handed-low, fall-owns, owned-of, owners-edges}
 
@@ -86,8 +87,7 @@ module _ (P : Setting) (E : Simple (P .n) (P .edge)) where
 
   -- a count at a level above the vertex's own
   pub phi-is : {s : State} → Fits P s → (v j : ℕ) → s .rank v ≤ j → phi s v j ≡ belowIn P (marks s) v j
-  unfolding phi
-  phi-is {s} F v j h = rw (leb-yes (s .rank v) j h, phi) (below-is F v j)
+  phi-is {s} F v j h = phi-above s v j h ∙ below-is F v j
 
   -- The moves keep a state fitting.
   pub part-fits : (w : ℕ) {s : State} → Fits P s → Fits P (part w s)

@@ -1,23 +1,20 @@
 -- What the bytes of a valid state say, with its edges as the ledger's: every fact of demand 3 about the last rack. Assumes nothing.
-use mathlib.Core.Path.{_≡_, refl, sym, ap, _∙_, subst}
+use mathlib.Core.Path.{_≡_, sym, ap, _∙_, subst}
 use mathlib.Core.Logic.{_≢_, inl, inr}
-use mathlib.Core.Bool.{Bool, true, false, _&&_}
-use mathlib.Core.List.{List}
-use Prim.Native.Nat.{ℕ, suc, _*_, _^_, _≤_, _<_}
+use mathlib.Core.Bool.{_&&_}
+use Prim.Native.Nat.{ℕ, _*_, _≤_, _<_}
 use native.Mathlib.Omega.{arith}
 use lib.Dec.{T, leb}
 use lib.ListN.{length}
-use Rattle.model.specs.Counting.{count}
-use Rattle.model.specs.State.{State, base, edge, near, below, phi, pairs}
-use Rattle.model.specs.Bytes.{noMate, rankAt, mateAt, phiAt, read, write}
+use Rattle.model.specs.State.{State, base, edge, near, below, phi}
+use Rattle.model.specs.Bytes.{noMate, rankAt, mateAt, phiAt, write}
 use Rattle.model.specs.Valid.{Valid}
-use Rattle.model.specs.Moves.{Ends}
-use Rattle.model.proofs.Tests.{eq?, leb-yes, leb-no}
+use Rattle.model.proofs.Tests.{eq?}
 use Rattle.model.proofs.Prefix.{count-ext}
 use Rattle.model.proofs.Fields.{rank-write, mate-write, phi-write}
-use Rattle.model.proofs.Limits.{size-few, edge-inside, edge-loop, mate-inside, mateEntry-free, mateEntry-mate}
+use Rattle.model.proofs.Limits.{phi-above, phi-zero, size-few, edge-inside, edge-loop, mate-inside, mateEntry-free, mateEntry-mate}
 use Rattle.model.proofs.Reading.{read-write}
-use Rattle.theory.specs.Demand.{pairsOf, neighboursBelow, Disjoint, Covers, Mates, Facts}
+use Rattle.theory.specs.Demand.{neighboursBelow, Mates, Facts}
 use Rattle.theory.proofs.ChangeStep.{ledger}
 use Rattle.theory.proofs.Matching.{base-one, maximal, twice, cover}
 use Rattle.theory.proofs.OnBytes.{write-sized, write-good, pairs-of}
@@ -65,13 +62,10 @@ module _ (s : State) (ok : Valid base s) where
   below-is v j = count-ext _ _ (s .n) (λ w l. ap (λ (x : ℕ). edge s v w && leb x j) (sym (rank-is w l)))
 
   phi-below : (v j : ℕ) → v < s .n → j < 4 → rankAt (write s) v ≤ j → phiAt (write s) v j ≡ below s v j
-  unfolding phi
-  phi-below v j l h k =
-      phi-write s v j (omega (arith, few)) h
-      ∙ rw (leb-yes (s .rank v) j (omega (arith, rank-is v l)), phi) refl
+  phi-below v j l h k = phi-write s v j (omega (arith, few)) h ∙ phi-above s v j (omega (arith, rank-is v l))
 
   pub last-facts : Facts (ledger s) (write s)
-  unfolding base phi
+  unfolding base
   last-facts = record {
     is-sized = write-sized s;
     is-sound = write-good s ok;
@@ -91,7 +85,7 @@ module _ (s : State) (ok : Valid base s) where
         let p : phiAt (write s) v j ≡ phi s v j = phi-write s v j (omega (arith, few)) h in
         omega (arith, p, ok .phi-low v j (omega arith), phi-below v j l h k, below-is v j);
     counts-zero = λ v j l h k.
-        phi-write s v j (omega (arith, few)) h ∙ rw (leb-no (s .rank v) j (omega (arith, rank-is v l)), phi) refl;
+        phi-write s v j (omega (arith, few)) h ∙ phi-zero s v j (omega (arith, rank-is v l));
     twice = λ m d. subst (λ (x : ℕ). length m ≤ 2 * x) (pairs-of s ok) (twice base base-one s ok m d);
     cover = λ c t. subst (λ (x : ℕ). x ≤ length c) (pairs-of s ok) (cover base s ok c t);
   }

@@ -1,22 +1,19 @@
 -- From states to bytes: a call on the bytes of a valid state leaves the bytes of the state that the change leaves, refused or not; and
 -- what a valid state's bytes say of its mates. Assumes nothing.
-use mathlib.Core.Path.{_≡_, refl, sym, ap, _∙_, subst}
+use mathlib.Core.Path.{_≡_, refl, sym, ap, _∙_}
 use mathlib.Core.Logic.{_≢_, inl, inr}
-use mathlib.Core.Bool.{Bool, true, false, _&&_}
-use mathlib.Core.List.{List}
-use Prim.Native.Nat.{ℕ, zero, suc, _≤_, _<_}
+use mathlib.Core.Bool.{_&&_}
+use Prim.Native.Nat.{ℕ, _≤_, _<_}
 use native.Mathlib.Omega.{arith}
 use lib.Dec.{T, eqb, ltb, ltb→lt}
 use lib.ListN.{length}
-use Rattle.model.specs.Counting.{sum, count}
 use Rattle.model.specs.State.{State, base, edge, pairs}
-use Rattle.model.specs.Bytes.{rackLength, noMate, mateAt, mateEntry, read, write}
+use Rattle.model.specs.Bytes.{rackLength, noMate, mateAt, write}
 use Rattle.model.specs.Sound.{sound}
 use Rattle.model.specs.Valid.{Valid}
-use Rattle.model.specs.Change.{Change, Changed, change, refused}
-use Rattle.model.specs.Calls.{sized, rackNumber, ChangedBytes, unchanged, written, changeBytes}
-use Rattle.model.specs.Ledger.{Ledger}
-use Rattle.model.proofs.Tests.{eq?, le?, bool?, T-true, T-false, true-T, eqb-yes, eqb-no}
+use Rattle.model.specs.Change.{Change, Changed, change}
+use Rattle.model.specs.Calls.{sized, rackNumber, written, changeBytes}
+use Rattle.model.proofs.Tests.{eq?, bool?, T-true, T-false, true-T, eqb-yes, eqb-no}
 use Rattle.model.proofs.Counting.{sum-eq}
 use Rattle.model.proofs.Prefix.{count-ext}
 use Rattle.model.proofs.Fields.{write-length, mate-write}

@@ -2,13 +2,14 @@
 use mathlib.Core.Path.{_≡_, refl, sym, subst}
 use mathlib.Core.Logic.{_≢_, inl, inr}
 use mathlib.Core.List.{[]}
-use Prim.Native.Nat.{ℕ, _≤_, _<_}
+use Prim.Native.Nat.{ℕ, _≤_}
 use native.Mathlib.Omega.{arith}
 use lib.Dec.{T}
-use Rattle.model.specs.State.{edge, Rules, State, phi}
+use Rattle.model.specs.State.{edge, Rules, State}
 use Rattle.model.specs.Bytes.{most}
 use Rattle.model.specs.Valid.{Valid}
-use Rattle.model.proofs.Tests.{le?, or-cases, or-left, or-right, leb-no}
+use Rattle.model.proofs.Tests.{le?, or-cases, or-left, or-right}
+use Rattle.model.proofs.Limits.{phi-zero}
 use Rattle.theory.proofs.Marks.{marks, Setting, setting, rules, Simple, Inv}
 use Rattle.theory.proofs.Settled.{low-free}
 use Rattle.theory.proofs.Ownership.{Owns}
@@ -50,11 +51,6 @@ module _ (R : Rules) (s : State) (H : Valid R s) where
     few = λ v j a b c. omega (arith, H .phi-low v j a, phi-is (setting R s) valid-simple valid-fits v j b);
   }
 
--- a count at a level that is not above the vertex's own
-phi-none : (s : State) (v j : ℕ) → j < s .rank v → phi s v j ≡ 0
-unfolding phi
-phi-none s v j h = rw (leb-no (s .rank v) j h, phi) refl
-
 -- A state at rest in a setting is valid.
 pub valid-of : (P : Setting) (E : Simple (P .n) (P .edge)) (pos : (j : ℕ) → 1 ≤ P .thr j) (s : State) → 1 ≤ P .n → P .n ≤ most
     → Fits P s → Inv P 0 [] (marks s) → Valid (rules P) s
@@ -80,6 +76,6 @@ valid-of P E pos s one few F I =
       low-free = low-free P E I;
       phi-low = λ v j a. elim (le? (s .rank v) j) [
         | inl l ↦ omega (arith, phi-is P E F v j l, I .few v j a l (λ e m. m))
-        | inr l ↦ omega (arith, phi-none s v j l, pos j)
+        | inr l ↦ omega (arith, phi-zero s v j l, pos j)
       ];
     }

@@ -2,9 +2,9 @@
 -- links of the link book (the edge ledger) as links. The theorem is `demand-three` (proofs/ListTheorem.antt). Assumes nothing.
 use mathlib.Core.Path.{_≡_}
 use mathlib.Core.Logic.{_≢_, _⊎_}
-use mathlib.Core.Bool.{Bool, true, _&&_}
+use mathlib.Core.Bool.{Bool, _&&_}
 use mathlib.Core.List.{List, [], _∷_}
-use Prim.Native.Nat.{ℕ, suc, _*_, _/_, _^_, _≤_, _<_}
+use Prim.Native.Nat.{ℕ, _*_, _/_, _^_, _≤_, _<_}
 use lib.Dec.{T, leb, ltb, eqb}
 use lib.ListN.{length}
 use Rattle.model.specs.Lists.{All, Mem, Distinct}
@@ -13,7 +13,7 @@ use Rattle.model.specs.State.{base, edge}
 use Rattle.model.specs.Bytes.{noMate, rankAt, mateAt, phiAt, read, write}
 use Rattle.model.specs.Sound.{sound}
 use Rattle.model.specs.Moves.{Ends}
-use Rattle.model.specs.Change.{Change, Answer, accepted, refused}
+use Rattle.model.specs.Change.{Change, accepted, refused}
 use Rattle.model.specs.Calls.{sized, ChangedBytes, changeBytes}
 use Rattle.model.specs.Ledger.{Ledger, ledgerNumber, entered, enteredAll}
 

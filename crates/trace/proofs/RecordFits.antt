@@ -1,15 +1,14 @@
 -- Every record of a trace of 1 to 256 vertices fits its space. Assumes nothing.
-use mathlib.Core.Path.{_≡_, refl, sym, ap, _∙_, subst}
-use mathlib.Core.Logic.{_≢_, inl, inr}
+use mathlib.Core.Path.{refl, ap}
+use mathlib.Core.Logic.{inl, inr}
 use mathlib.Core.Bool.{Bool, true, false, _&&_, _||_, not}
-use Prim.Native.Nat.{ℕ, zero, suc, _+_, _*_, _/_, _^_, _≤_, _<_}
+use Prim.Native.Nat.{ℕ, zero, suc, _/_, _^_, _≤_}
 use native.Mathlib.Nat.{pow-suc}
 use native.Mathlib.Omega.{arith}
 use lib.Dec.{eqb, ltb}
 use lib.ListN.{length}
-use Rattle.model.specs.State.{State, base, edge, pairs, empty}
+use Rattle.model.specs.State.{State, base, edge, pairs}
 use Rattle.model.specs.Valid.{Valid}
-use Rattle.model.specs.Text.{largest}
 use Rattle.model.specs.Trace.{Trace, traceText}
 use Rattle.model.specs.Change.{Change, Answer, number, change, refused}
 use Rattle.model.specs.Record.{recordText}
@@ -20,7 +19,7 @@ use Rattle.model.proofs.Limits.{mate-inside}
 use Rattle.theory.proofs.ChangeStep as steps
 use Rattle.theory.proofs.Matching.{empty-valid}
 use Rattle.text.proofs.Answers.{Figures}
-use Rattle.trace.proofs.Bound.{Bounded, Small, record-fits}
+use Rattle.trace.proofs.Bound.{Small, record-fits}
 
 pow-pos : (j : ℕ) → 1 ≤ 4 ^ j
 pow-pos zero = omega arith

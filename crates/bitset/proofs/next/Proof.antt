@@ -1,5 +1,5 @@
 -- `bitset::next` meets its contract. Assumes nothing.
-use Prim.Native.Nat.{ℕ, _<_, _+_, _/_, _%_, _^_}
+use Prim.Native.Nat.{_<_, _+_, _/_, _%_, _^_}
 use native.Mathlib.Omega.{arith}
 use lib.ListN.{getD}
 use lib.Count.{trailingZeros}

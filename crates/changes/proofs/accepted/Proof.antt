@@ -1,5 +1,5 @@
 -- `changes::accepted` meets its contract. Assumes nothing.
-use mathlib.Core.Path.{_≡_, sym, _∙_}
+use mathlib.Core.Path.{sym, _∙_}
 use Rattle.model.specs.Bytes.{read}
 use Rattle.changes.proofs.Answered.{adds-up, adds-down, drops-up, drops-down, ran-is, edge-swap}
 use borrow.Author.Needs.{needs}

@@ -1,8 +1,6 @@
 -- `changes::ends_number` meets its contract. Assumes nothing.
-use mathlib.Core.Path.{_≡_, refl, sym, ap, _∙_}
-use native.Mathlib.Omega.{arith}
+use mathlib.Core.Path.{sym}
 use Rattle.changes.proofs.Numbers.{ends-a, ends-b, ends-same, ends-good}
-use borrow.Author.Needs.{needs}
 use Rattle.changes.proofs.ends_number.Statement.{statement}
 use Rattle.changes.proofs.ends_number.Tie as tie
 

@@ -1,5 +1,5 @@
 -- `changes::number` meets its contract. Assumes nothing.
-use mathlib.Core.Path.{_≡_, sym, ap, _∙_}
+use mathlib.Core.Path.{sym, ap, _∙_}
 use Prim.Native.Nat.{ℕ}
 use Rattle.model.specs.State.{edge}
 use Rattle.model.specs.Bytes.{read}

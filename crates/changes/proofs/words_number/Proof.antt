@@ -1,11 +1,10 @@
 -- `changes::words_number` meets its contract. Assumes nothing.
-use mathlib.Core.Path.{_≡_, refl, sym, ap, _∙_}
+use mathlib.Core.Path.{refl}
 use native.Mathlib.Omega.{arith}
 use Prim.Native.Nat.{suc, _/_}
 use lib.ListN.{length}
 use Rattle.model.proofs.Tests.{leb-yes, leb-no}
 use Rattle.changes.specs.Sounded.{wordsNumber}
-use borrow.Author.Needs.{needs}
 use Rattle.changes.proofs.words_number.Statement.{statement}
 use Rattle.changes.proofs.words_number.Tie as tie
 

@@ -1,5 +1,5 @@
 -- `engine::audit` meets its contract. Assumes nothing.
-use mathlib.Core.Path.{_≡_, refl, sym, _∙_}
+use mathlib.Core.Path.{refl, sym, _∙_}
 use Rattle.model.specs.Calls.{audit}
 use Rattle.engine.proofs.Numbers.{off, on, sized-length}
 use borrow.Author.Needs.{needs}

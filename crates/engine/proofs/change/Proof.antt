@@ -1,5 +1,5 @@
 -- `engine::change` meets its contract. Assumes nothing.
-use mathlib.Core.Path.{_≡_, refl, sym, _∙_}
+use mathlib.Core.Path.{refl, sym, _∙_}
 use native.Mathlib.Omega.{arith}
 use Rattle.engine.proofs.Changing.{turned-is, sounded, ran-is}
 use Rattle.changes.specs.Sounded.{Sounded, brought}

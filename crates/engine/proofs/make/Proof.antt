@@ -1,5 +1,5 @@
 -- `engine::make` meets its contract. Assumes nothing.
-use mathlib.Core.Path.{_≡_, refl, sym, _∙_}
+use mathlib.Core.Path.{sym, _∙_}
 use native.Mathlib.Omega.{arith}
 use Rattle.engine.proofs.Numbers.{off, on, make-one, make-five, make-new, sized-length, few-bad, many-bad, few-good}
 use borrow.Author.Needs.{needs}
@@ -27,17 +27,14 @@ returns-2 c =
     let r = make-five (a .rack .now) (a .n) (sym (c .before .before .sized .ensures) ∙ on (c .before .before .sized .result) (c .before .if1 .left)) (few-bad (a .n) (c .if2 .taken)) in
     (sym (r .0), sym (r .1))
 
-most-requires : tie.Need-most-requires
-most-requires c κs = search needs
-
 same-length-3 : tie.Need-same-length-3
 same-length-3 c = search needs
 
 returns-3 : tie.Need-returns-3
 returns-3 c =
-    let a = c .before .before .before .before .before .before .before .args in
-    let r = make-five (a .rack .now) (a .n) (sym (c .before .before .before .before .sized .ensures) ∙ on (c .before .before .before .before .sized .result) (c .before .before .before .if1 .left))
-    (many-bad (a .n) (omega (arith, c .if3 .taken, c .before .most .ensures))) in
+    let a = c .before .before .before .before .before .before .args in
+    let r = make-five (a .rack .now) (a .n) (sym (c .before .before .before .sized .ensures) ∙ on (c .before .before .before .sized .result) (c .before .before .if1 .left))
+    (many-bad (a .n) (omega (arith, c .if3 .taken))) in
     (sym (r .0), sym (r .1))
 
 cast-clear : tie.Need-cast-clear
@@ -45,17 +42,17 @@ cast-clear c = search needs
 
 clear-requires : tie.Need-clear-requires
 clear-requires c κs =
-    let a = c .before .before .before .before .before .before .before .before .args in
-    (sized-length (a .rack .now) (sym (c .before .before .before .before .before .sized .ensures) ∙ on (c .before .before .before .before .before .sized .result) (c .before .before .before .before .if1 .left)), omega (arith, c .before .if3 .left, c .before .before .most .ensures))
+    let a = c .before .before .before .before .before .before .before .args in
+    (sized-length (a .rack .now) (sym (c .before .before .before .before .sized .ensures) ∙ on (c .before .before .before .before .sized .result) (c .before .before .before .if1 .left)), omega (arith, c .before .if3 .left))
 
 same-length-4 : tie.Need-same-length-4
 same-length-4 c = search needs
 
 returns-4 : tie.Need-returns-4
 returns-4 c =
-    let a = c .before .before .before .before .before .before .before .before .before .before .before .args in
-    let r = make-new (a .rack .now) (a .n) (sym (c .before .before .before .before .before .before .before .before .sized .ensures) ∙ on (c .before .before .before .before .before .before .before .before .sized .result) (c .before .before .before .before .before .before .before .if1 .left))
-    (few-good (a .n) (c .before .before .before .before .before .before .if2 .left) (omega (arith, c .before .before .before .before .if3 .left, c .before .before .before .before .before .most .ensures))) in
+    let a = c .before .before .before .before .before .before .before .before .before .before .args in
+    let r = make-new (a .rack .now) (a .n) (sym (c .before .before .before .before .before .before .before .sized .ensures) ∙ on (c .before .before .before .before .before .before .before .sized .result) (c .before .before .before .before .before .before .if1 .left))
+    (few-good (a .n) (c .before .before .before .before .before .if2 .left) (omega (arith, c .before .before .before .before .if3 .left))) in
     (sym (r .0), c .before .before .clear .ensures ∙ sym (r .1))
 
 pub make-spec : {M : Type 1} → statement M
@@ -67,7 +64,6 @@ make-spec =
     returns
     same-length-2
     returns-2
-    most-requires
     same-length-3
     returns-3
     cast-clear

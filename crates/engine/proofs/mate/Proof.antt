@@ -1,5 +1,5 @@
 -- `engine::mate` meets its contract. Assumes nothing.
-use mathlib.Core.Path.{_≡_, refl, sym, _∙_}
+use mathlib.Core.Path.{refl, sym, _∙_}
 use Rattle.model.specs.Calls.{mateQuery}
 use Rattle.model.proofs.Tests.{eqb-yes, eqb-no}
 use Rattle.engine.proofs.Numbers.{asked}

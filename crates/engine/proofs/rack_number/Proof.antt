@@ -1,6 +1,5 @@
 -- `engine::rack_number` meets its contract. Assumes nothing.
-use mathlib.Core.Path.{_≡_, sym, ap, _∙_}
-use native.Mathlib.Omega.{arith}
+use mathlib.Core.Path.{_≡_, sym, _∙_}
 use mathlib.Core.Bool.{true, false}
 use Rattle.model.specs.Calls.{sized}
 use Rattle.engine.proofs.Numbers.{off, on, rack-one, rack-six, rack-zero, sized-length}

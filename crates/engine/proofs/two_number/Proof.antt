@@ -1,5 +1,5 @@
 -- `engine::two_number` meets its contract. Assumes nothing.
-use mathlib.Core.Path.{_≡_, sym, _∙_}
+use mathlib.Core.Path.{sym, _∙_}
 use native.Mathlib.Omega.{arith}
 use Rattle.engine.proofs.Numbers.{two-back, two-eight, two-nine, two-zero, one-good, rack-good, sized-length}
 use borrow.Author.Needs.{needs}

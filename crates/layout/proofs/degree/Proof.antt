@@ -1,9 +1,5 @@
 -- `layout::degree` meets its contract: the row is lent on as a part of the bytes. Assumes nothing.
-use mathlib.Core.Path.{_≡_, _∙_, ap, subst, sym}
-use mathlib.Core.List.{List}
-use Prim.Native.Nat.{ℕ, _+_, _-_, _*_, _<_}
-use native.Mathlib.Omega.{arith}
-use lib.ListN.{take, drop}
+use mathlib.Core.Path.{_∙_, ap}
 use Rattle.bitset.specs.Row.{size}
 use Rattle.layout.proofs.Parts.{part-row, row-degree}
 use borrow.Author.Needs.{needs}

@@ -1,6 +1,6 @@
 -- `layout::linked` meets its contract: the second owner is asked where the first is none. Assumes nothing.
-use mathlib.Core.Path.{_≡_, sym, ap, _∙_}
-use mathlib.Core.Bool.{Bool, true, false, _||_}
+use mathlib.Core.Path.{sym, ap, _∙_}
+use mathlib.Core.Bool.{Bool, _||_}
 use borrow.Author.Needs.{needs}
 use Rattle.model.specs.Bytes.{ownsAt}
 use Rattle.layout.proofs.linked.Statement.{statement}

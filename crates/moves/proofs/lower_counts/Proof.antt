@@ -12,7 +12,8 @@ use Rattle.layout.specs.Setters.{Sized}
 use Rattle.moves.specs.Counts.{hit, loweredCounts}
 use Rattle.moves.proofs.Held.{held-sized, held-size, held-rank, held-owns, NextIn, next-in}
 use Rattle.moves.proofs.Recount.{hit-counted}
-use Rattle.moves.proofs.CountWalk.{Counted, counted-sized, counted-rank, counted-phi, counted-owns, Walked, walk-start, walk-step, walk-end, hit-of, row-low, lowered-quiet, lowered-turn}
+use Rattle.moves.proofs.Choices.{hit-of}
+use Rattle.moves.proofs.CountWalk.{Counted, counted-sized, counted-rank, counted-phi, counted-owns, Walked, walk-start, walk-step, walk-end, row-low, lowered-quiet, lowered-turn}
 use Rattle.moves.proofs.lower_counts.Statement.{statement}
 use Rattle.moves.proofs.lower_counts.Tie as tie
 

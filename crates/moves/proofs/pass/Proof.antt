@@ -3,7 +3,7 @@ use borrow.Author.Needs.{needs}
 use mathlib.Core.Path.{_∙_, ap}
 use mathlib.Core.List.{List}
 use Prim.Native.Nat.{ℕ}
-use Rattle.layout.specs.Setters.{own, disown}
+use Rattle.layout.specs.Setters.{own}
 use Rattle.moves.proofs.pass.Statement.{statement}
 use Rattle.moves.proofs.pass.Tie as tie
 
