@@ -13,6 +13,7 @@ use Rattle.model.specs.Moves.{Run}
 use Rattle.model.specs.Change.{Change, Changed, lower, upper, add, drop, number, refused, done, accepted, change}
 use Rattle.model.proofs.Tests.{eq?, bool-ext, T-true, T-false, eqb-yes, eqb-no, leb-yes, leb-no}
 use Rattle.model.proofs.Limits.{mateEntry-free, mateEntry-mate}
+use Rattle.model.proofs.Reading.{read-write}
 use Rattle.theory.proofs.Numbers.{Fitting, number-zero}
 use Rattle.theory.proofs.ChangeStep.{Step}
 use Rattle.theory.proofs.OnBytes.{step}
@@ -76,6 +77,16 @@ ran-is {r} {q} {bs} {t} e x = subst (λ (z : Run). Ran z bs t) (sym e) x
 
 pub edge-swap : (s : State) (a b : ℕ) → edge s b a ≡ edge s a b
 edge-swap s a b = bool-ext (edge s b a) (edge s a b) (edge-turn s b a) (edge-turn s a b)
+
+-- bytes that write a valid state are sound
+pub sounded-of : (bs : List ℕ) (s : State) → bs ≡ write s → Valid base s → Sounded bs
+sounded-of bs s e ok =
+    let r : read bs ≡ s = ap read e ∙ read-write base s ok in
+    record { written = e ∙ ap write (sym r); valid = subst (Valid base) (sym r) ok }
+
+-- whatever the change, refused or not, the rack that it leaves is sound: the next change may follow
+pub sounded-after : (bs : List ℕ) (c : Change) → Sounded bs → Sounded (write (change base (read bs) c .state))
+sounded-after bs c ok = sounded-of _ (change base (read bs) c .state) refl (step (read bs) (ok .valid) c .valid)
 
 -- what the change answers, and what it leaves
 module _ (bs : List ℕ) (ok : Sounded bs) (code a b : ℕ) (words : List ℕ) where
