@@ -17,8 +17,6 @@ use Rattle.model.proofs.Reading.{read-write}
 use Rattle.theory.proofs.Numbers.{Fitting, number-zero}
 use Rattle.theory.proofs.ChangeStep.{Step}
 use Rattle.theory.proofs.OnBytes.{step}
-use Rattle.moves.specs.Proper.{Proper, Held}
-use Rattle.moves.proofs.Held.{held-of, reads-as, valid-proper}
 use Rattle.moves.proofs.Edges.{edge-turn}
 use Rattle.settling.specs.declared.Tally.{Tally}
 use Rattle.changes.specs.declared.Answer.{Answer}
@@ -110,15 +108,13 @@ module _ (bs : List ℕ) (ok : Sounded bs) (code a b : ℕ) (words : List ℕ) w
       → change base (read bs) (brought code a b words) ≡ done (acceptedRun (read bs) (brought code a b words))
   run-is z = t .accepted-is (t .number ∙ z) ∙ accepted-done (read bs) code a b words
 
-  pub accepted-held : {bs′ : List ℕ} {x : Tally} → number (read bs .n) (edge (read bs)) (brought code a b words) ≡ 0
-      → Ran (acceptedRun (read bs) (brought code a b words)) bs′ x
-      → Held bs′ × (read bs′ ≡ acceptedRun (read bs) (brought code a b words) .state)
+  run-valid : number (read bs .n) (edge (read bs)) (brought code a b words) ≡ 0 → Valid base (acceptedRun (read bs) (brought code a b words) .state)
   unfolding done
-  accepted-held {bs′} z x =
-      let v : Valid base (acceptedRun (read bs) (brought code a b words) .state) =
-      subst (λ (d : Changed). Valid base (d .state)) (run-is z) (t .valid) in
-      let p = valid-proper _ v in
-      (held-of bs′ _ (x .rack) p, reads-as bs′ _ (x .rack) p)
+  run-valid z = subst (λ (d : Changed). Valid base (d .state)) (run-is z) (t .valid)
+
+  pub accepted-sounded : {bs′ : List ℕ} {x : Tally} → number (read bs .n) (edge (read bs)) (brought code a b words) ≡ 0
+      → Ran (acceptedRun (read bs) (brought code a b words)) bs′ x → Sounded bs′
+  accepted-sounded {bs′} z x = sounded-of bs′ _ (x .rack) (run-valid z)
 
   pub accepted-answer : {bs′ : List ℕ} {x : Tally} → number (read bs .n) (edge (read bs)) (brought code a b words) ≡ 0
       → Ran (acceptedRun (read bs) (brought code a b words)) bs′ x → (r : Answer) → r .number ≡ 0 → r .draws ≡ x .draws → r .falls ≡ x .falls
@@ -130,7 +126,7 @@ module _ (bs : List ℕ) (ok : Sounded bs) (code a b : ℕ) (words : List ℕ) w
         number = e;
         draws = p ∙ x .draws;
         falls = q ∙ x .falls;
-        pairs = o ∙ ap pairs (accepted-held z x .1);
+        pairs = o ∙ ap pairs (ap read (x .rack) ∙ read-write base _ (run-valid z));
       })
 
   pub accepted-leaves : {bs′ : List ℕ} {x : Tally} → number (read bs .n) (edge (read bs)) (brought code a b words) ≡ 0
