@@ -2,10 +2,11 @@
 // The contracts cite specs/Row.antt; callers use the laws of proofs/Laws.antt and need no bit arithmetic.
 ghost use mathlib.Core.Path.{_≡_};
 ghost use Prim.Native.Nat.{ℕ, _+_, _/_, _<_, _*_, _^_, _%_, _≤_};
-ghost use lib.Dec.{T};
+ghost use lib.Dec.{T, ltb};
 ghost use lib.ListN.{length, getD};
 ghost use lib.Count.{ones as onesOf};
 ghost use Rattle.model.specs.Bytes.{bitOf};
+ghost use Rattle.model.specs.Counting.{bit, count};
 ghost use Rattle.model.proofs.Facts.{Says};
 ghost use Rattle.bitset.specs.Row.{member, inserted, removed, Nth, Next, size as sizeOf};
 ghost use Rattle.bitset.specs.Words.{Rest};
@@ -190,4 +191,28 @@ pub fn is_ones(part: &[u8]) -> bool
         i += 1;
     }
     acc == 255
+}
+
+// 1 for a byte that is not 0.
+fn one(b: u8) -> u8
+    ensures { λ r. ⌜ r ≡ bit (ltb 0 b) ⌝ }
+{
+    if b == 0 {
+        return 0;
+    }
+    1
+}
+
+// How many bytes are not 0, of at most 255. Summed in 8 bits, the loop runs on more bytes a step.
+pub fn nonzero(part: &[u8]) -> usize
+    requires { ⌜ length (now part) < 256 ⌝ }
+    ensures { λ r. ⌜ r ≡ count (λ k. ltb 0 (getD (now (part .entry)) k 0)) (length (now (part .entry))) ⌝ }
+{
+    let mut sum: u8 = 0;
+    let mut i = 0;
+    while i < part.len() {
+        sum += one(part[i]);
+        i += 1;
+    }
+    sum as usize
 }

@@ -1,21 +1,22 @@
 -- A change as a whole: which of its ends is which, and what it answers. Assumes nothing.
-use mathlib.Core.Path.{_≡_, refl, sym, ap, _∙_, subst}
-use mathlib.Core.Logic.{_≢_, inl, inr}
-use mathlib.Core.List.{List}
-use Prim.Native.Nat.{ℕ, _≤_, _<_}
+use mathlib.Core.Path.{_≡_, refl, sym, ap, ap₂, _∙_, subst}
+use mathlib.Core.Logic.{_≢_, _⊎_, inl, inr}
+use mathlib.Core.Bool.{Bool, true, false}
+use mathlib.Core.List.{List, []}
+use Prim.Native.Nat.{ℕ, zero, suc, _≤_, _<_}
 use native.Mathlib.Omega.{arith}
+use lib.Dec.{T, eqb, leb}
 use Rattle.model.specs.State.{base, State, edge, pairs}
 use Rattle.model.specs.Bytes.{read, write, mateEntry}
 use Rattle.model.specs.Valid.{Valid}
 use Rattle.model.specs.Moves.{Run}
-use Rattle.model.specs.Change.{Changed, lower, upper, add, drop, number, refused, done, accepted, change}
+use Rattle.model.specs.Change.{Change, Changed, lower, upper, add, drop, number, refused, done, accepted, change}
 use Rattle.model.proofs.Tests.{eq?, bool-ext, T-true, T-false, eqb-yes, eqb-no, leb-yes, leb-no}
 use Rattle.model.proofs.Limits.{mateEntry-free, mateEntry-mate}
+use Rattle.model.proofs.Reading.{read-write}
 use Rattle.theory.proofs.Numbers.{Fitting, number-zero}
 use Rattle.theory.proofs.ChangeStep.{Step}
 use Rattle.theory.proofs.OnBytes.{step}
-use Rattle.moves.specs.Proper.{Held}
-use Rattle.moves.proofs.Held.{held-of, reads-as, valid-proper}
 use Rattle.moves.proofs.Edges.{edge-turn}
 use Rattle.settling.specs.declared.Tally.{Tally}
 use Rattle.changes.specs.declared.Answer.{Answer}
@@ -75,6 +76,16 @@ ran-is {r} {q} {bs} {t} e x = subst (λ (z : Run). Ran z bs t) (sym e) x
 pub edge-swap : (s : State) (a b : ℕ) → edge s b a ≡ edge s a b
 edge-swap s a b = bool-ext (edge s b a) (edge s a b) (edge-turn s b a) (edge-turn s a b)
 
+-- bytes that write a valid state are sound
+pub sounded-of : (bs : List ℕ) (s : State) → bs ≡ write s → Valid base s → Sounded bs
+sounded-of bs s e ok =
+    let r : read bs ≡ s = ap read e ∙ read-write base s ok in
+    record { written = e ∙ ap write (sym r); valid = subst (Valid base) (sym r) ok }
+
+-- whatever the change, refused or not, the rack that it leaves is sound: the next change may follow
+pub sounded-after : (bs : List ℕ) (c : Change) → Sounded bs → Sounded (write (change base (read bs) c .state))
+sounded-after bs c ok = sounded-of _ (change base (read bs) c .state) refl (step (read bs) (ok .valid) c .valid)
+
 -- what the change answers, and what it leaves
 module _ (bs : List ℕ) (ok : Sounded bs) (code a b : ℕ) (words : List ℕ) where
   t : Step base (read bs) (brought code a b words) (change base (read bs) (brought code a b words))
@@ -97,15 +108,13 @@ module _ (bs : List ℕ) (ok : Sounded bs) (code a b : ℕ) (words : List ℕ) w
       → change base (read bs) (brought code a b words) ≡ done (acceptedRun (read bs) (brought code a b words))
   run-is z = t .accepted-is (t .number ∙ z) ∙ accepted-done (read bs) code a b words
 
-  pub accepted-held : {bs′ : List ℕ} {x : Tally} → number (read bs .n) (edge (read bs)) (brought code a b words) ≡ 0
-      → Ran (acceptedRun (read bs) (brought code a b words)) bs′ x
-      → Held bs′ × (read bs′ ≡ acceptedRun (read bs) (brought code a b words) .state)
+  run-valid : number (read bs .n) (edge (read bs)) (brought code a b words) ≡ 0 → Valid base (acceptedRun (read bs) (brought code a b words) .state)
   unfolding done
-  accepted-held {bs′} z x =
-      let v : Valid base (acceptedRun (read bs) (brought code a b words) .state) =
-      subst (λ (d : Changed). Valid base (d .state)) (run-is z) (t .valid) in
-      let p = valid-proper _ v in
-      (held-of bs′ _ (x .rack) p, reads-as bs′ _ (x .rack) p)
+  run-valid z = subst (λ (d : Changed). Valid base (d .state)) (run-is z) (t .valid)
+
+  pub accepted-sounded : {bs′ : List ℕ} {x : Tally} → number (read bs .n) (edge (read bs)) (brought code a b words) ≡ 0
+      → Ran (acceptedRun (read bs) (brought code a b words)) bs′ x → Sounded bs′
+  accepted-sounded {bs′} z x = sounded-of bs′ _ (x .rack) (run-valid z)
 
   pub accepted-answer : {bs′ : List ℕ} {x : Tally} → number (read bs .n) (edge (read bs)) (brought code a b words) ≡ 0
       → Ran (acceptedRun (read bs) (brought code a b words)) bs′ x → (r : Answer) → r .number ≡ 0 → r .draws ≡ x .draws → r .falls ≡ x .falls
@@ -117,7 +126,7 @@ module _ (bs : List ℕ) (ok : Sounded bs) (code a b : ℕ) (words : List ℕ) w
         number = e;
         draws = p ∙ x .draws;
         falls = q ∙ x .falls;
-        pairs = o ∙ ap pairs (accepted-held z x .1);
+        pairs = o ∙ ap pairs (ap read (x .rack) ∙ read-write base _ (run-valid z));
       })
 
   pub accepted-leaves : {bs′ : List ℕ} {x : Tally} → number (read bs .n) (edge (read bs)) (brought code a b words) ≡ 0

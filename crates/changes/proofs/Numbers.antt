@@ -1,34 +1,15 @@
--- The numbers of a change, case by case, and the pairs by the entries of the bytes. Assumes nothing.
-use mathlib.Core.Path.{_≡_, refl, sym, _∙_}
-use mathlib.Core.Logic.{_≢_, inl, inr}
-use mathlib.Core.Bool.{Bool, true, false, _||_}
+-- The numbers of a change, case by case. Assumes nothing.
+use mathlib.Core.Path.{_≡_, refl, sym, ap, _∙_, subst}
+use mathlib.Core.Logic.{_≢_, _⊎_, inl, inr}
+use mathlib.Core.Bool.{Bool, true, false, not, _&&_, _||_}
 use mathlib.Core.List.{List}
-use Prim.Native.Nat.{ℕ, suc, _≤_, _<_}
+use Prim.Native.Nat.{ℕ, zero, suc, _/_, _≤_, _<_}
 use native.Mathlib.Omega.{arith}
-use lib.Dec.{eqb, ltb}
-use Rattle.model.specs.State.{State}
-use Rattle.model.specs.Bytes.{mateEntry}
+use lib.Dec.{T, eqb, leb, ltb}
+use lib.ListN.{length}
 use Rattle.model.specs.Change.{number}
 use Rattle.model.proofs.Tests.{eq?, le?, eqb-yes, eqb-no, leb-yes, leb-no}
-use Rattle.model.proofs.Limits.{mateEntry-free, mateEntry-mate}
-use Rattle.moves.specs.Proper.{Proper}
 use Rattle.changes.specs.Sounded.{brought, endsNumber, wordsNumber}
-
--- a vertex is the lower one of a pair exactly if its entry is above it and below n
-module _ (s : State) (p : Proper s) (v : ℕ) (l : v < s .n) where
-  pub entry-low : mateEntry s v ≤ v → ltb v (s .mate v) ≡ false
-  entry-low h = elim (eq? (s .mate v) v) [
-    | inl e ↦ leb-no (suc v) (s .mate v) (omega arith)
-    | inr e ↦ leb-no (suc v) (s .mate v) (omega (arith, mateEntry-mate s v e))
-  ]
-
-  pub entry-high : v < mateEntry s v → ltb (mateEntry s v) (s .n) ≡ ltb v (s .mate v)
-  entry-high h = elim (eq? (s .mate v) v) [
-    | inl e ↦ leb-no (suc (mateEntry s v)) (s .n) (omega (arith, mateEntry-free s v e, p .few)) ∙ sym (leb-no (suc v) (s .mate v) (omega arith))
-    | inr e ↦
-        leb-yes (suc (mateEntry s v)) (s .n) (omega (arith, mateEntry-mate s v e, p .mates v l))
-        ∙ sym (leb-yes (suc v) (s .mate v) (omega (arith, mateEntry-mate s v e)))
-  ]
 
 -- the numbers of the boards
 module _ (n a b : ℕ) where

@@ -3,7 +3,6 @@ ghost use mathlib.Core.Path.{_≡_};
 ghost use mathlib.Core.Logic.{_≢_};
 ghost use mathlib.Core.Bool.{true, false};
 ghost use Prim.Native.Nat.{_<_};
-ghost use lib.Dec.{ltb};
 ghost use Rattle.model.specs.State.{base, edge, pairs as pairsOf};
 ghost use Rattle.model.specs.Bytes.{read, write};
 ghost use Rattle.model.specs.Moves.{part as parted, promote as promoted, settle as settled};
@@ -20,34 +19,12 @@ pub struct Answer {
     pub pairs: u32,
 }
 
-// Whether v is the lower vertex of a pair.
-fn is_lower(rack: &[u8], v: usize, n: usize) -> bool
-    requires { ⌜ Held (now rack) ⌝ }
-    requires { ⌜ (v < n) × (n ≡ read (now rack) .n) ⌝ }
-    ensures { λ r. ⌜ r ≡ ltb v (read (now (rack .entry)) .mate v) ⌝ }
-{
-    let m = layout::mate(rack, v) as usize;
-    if m <= v {
-        return false;
-    }
-    m < n
-}
-
-// The pairs held, each at its lower vertex.
+// The pairs held. In a sound rack a vertex is free exactly if its rank is 0, so that the vertices with a rank above 0 are twice as many.
 pub fn pairs(rack: &[u8]) -> u32
-    requires { ⌜ Held (now rack) ⌝ }
+    requires { ⌜ Sounded (now rack) ⌝ }
     ensures { λ r. ⌜ r ≡ pairsOf (read (now (rack .entry))) ⌝ }
 {
-    let n = layout::size(rack);
-    let mut count = 0;
-    let mut v = 0;
-    while v < n {
-        if is_lower(rack, v, n) {
-            count += 1;
-        }
-        v += 1;
-    }
-    count
+    (layout::ranked(rack) / 2) as u32
 }
 
 // "8. A board named is n or more." and "9. The two boards named are the same.", or 0.

@@ -5,7 +5,7 @@ use mathlib.Core.Bool.{Bool}
 use mathlib.Core.List.{List}
 use Prim.Native.Nat.{ℕ, zero, suc, _+_, _-_, _*_, _/_, _%_, _≤_, _<_}
 use native.Mathlib.Omega.{arith}
-use lib.Dec.{T}
+use lib.Dec.{T, ltb}
 use lib.ListN.{length, getD, take, drop, length-take, length-drop}
 use lib.Seq.{getD-take, getD-drop}
 use Rattle.model.specs.Counting.{sum, count}
@@ -92,6 +92,20 @@ module _ (bs : List ℕ) (n : ℕ) (b : Bool) where
             (subst T (ap₂ (λ (x y : ℕ). bitOf (getD bs x 0) y) at bit) (digit-bitOf (getD bs k 0) j e)))
         | inr e ↦ omega (arith, digit-lt (getD bs k 0) j, digit-zero j)
       ]))
+
+-- The bytes that are not 0 of a part within the ranks: the vertices from `from` on that have a rank above 0.
+pub nonzero-ranks : (bs : List ℕ) (from m : ℕ) → 8 + from + m ≤ length bs
+    → let part = take m (drop (8 + from) bs) in
+    count (λ k. ltb 0 (getD part k 0)) (length part) ≡ count (λ k. ltb 0 (rankAt bs (from + k))) m
+unfolding rankAt
+nonzero-ranks bs from m h =
+    let part : List ℕ = take m (drop (8 + from) bs) in
+    let long : length part ≡ m = simp (length-take, length-drop) (omega arith) in
+    ap (count (λ k. ltb 0 (getD part k 0))) long
+    ∙ count-ext (λ k. ltb 0 (getD part k 0)) (λ k. ltb 0 (getD bs (8 + (from + k)) 0)) m
+    (λ k l.
+    let i : 8 + from + k ≡ 8 + (from + k) = omega arith in
+    ap (ltb 0) (getD-take m (drop (8 + from) bs) k 0 l ∙ getD-drop (8 + from) bs k 0 ∙ ap (λ (x : ℕ). getD bs x 0) i))
 
 -- A word of a row, as edges.
 pub word-owns : (bs : List ℕ) (v k x : ℕ) → Rest (λ j. member bs (8 * (1800 + 32 * v + 8 * k) + j)) 0 x → Rest (λ j. ownsAt bs v (64 * k + j)) 0 x

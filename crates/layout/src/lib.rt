@@ -3,10 +3,10 @@
 ghost use mathlib.Core.Path.{_≡_};
 ghost use mathlib.Core.Bool.{_||_};
 ghost use Prim.Native.Nat.{ℕ, _<_, _≤_, _+_, _*_};
-ghost use lib.Dec.{T};
+ghost use lib.Dec.{T, ltb};
 ghost use lib.ListN.{length, replicate};
 ghost use Rattle.model.specs.State.{base, empty};
-ghost use Rattle.model.specs.Counting.{sum};
+ghost use Rattle.model.specs.Counting.{sum, count};
 ghost use Rattle.model.specs.Bytes.{most as mostOf, sizeAt, edgesAt, rankAt, mateAt, phiAt, ownsAt, write};
 ghost use Rattle.model.specs.Calls.{sized as sizedOf};
 ghost use Rattle.model.proofs.Facts.{Says};
@@ -94,6 +94,14 @@ pub fn set_rank(rack: &mut [u8], v: usize, x: u8)
     ensures { λ _. ⌜ now (rack .exit) ≡ setRank (now (rack .entry)) v x ⌝ }
 {
     rack[8 + v] = x;
+}
+
+// How many vertices have a rank above 0, in two halves: each is few enough to be summed in a byte.
+pub fn ranked(rack: &[u8]) -> usize
+    requires { ⌜ Sized (now rack) ⌝ }
+    ensures { λ r. ⌜ r ≡ count (λ v. ltb 0 (rankAt (now (rack .entry)) v)) mostOf ⌝ }
+{
+    bitset::nonzero(&rack[8..136]) + bitset::nonzero(&rack[136..264])
 }
 
 // The mate of vertex v, 65,535 if it is free.

@@ -4,7 +4,7 @@ use mathlib.Core.Logic.{inl, inr}
 use mathlib.Core.List.{List}
 use Prim.Native.Nat.{ℕ, _≤_, _<_}
 use native.Mathlib.Omega.{arith}
-use lib.Dec.{T}
+use lib.Dec.{T, ltb, ltb→lt}
 use lib.ListN.{length}
 use Rattle.model.specs.Counting.{count}
 use Rattle.model.specs.State.{base, State, phi}
@@ -104,6 +104,13 @@ module _ {bs : List ℕ} (h : Held bs) where
   held-degree v l =
       count-ext (ownsAt bs v) (read bs .owns v) 256 (λ w k. held-owns v w l k)
       ∙ sym (count-skip (read bs .owns v) (read bs .n) 256 (h .proper .few) (λ w a b t. omega (arith, h .proper .inside v w t .1)))
+
+  -- the ranks above 0 are those of the vertices
+  pub held-ranked : count (λ v. ltb 0 (rankAt bs v)) 256 ≡ count (λ v. ltb 0 (read bs .rank v)) (read bs .n)
+  held-ranked =
+      count-ext (λ v. ltb 0 (rankAt bs v)) (λ v. ltb 0 (read bs .rank v)) 256 (λ v l. ap (ltb 0) (held-rank v l))
+      ∙ sym (count-skip (λ v. ltb 0 (read bs .rank v)) (read bs .n) 256 (h .proper .few)
+      (λ v a b t. omega (arith, h .proper .past-rank v a, ltb→lt 0 (read bs .rank v) t)))
 
   -- vertices below n are below 256
   pub held-small : (v : ℕ) → v < read bs .n → v < 256

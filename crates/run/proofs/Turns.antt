@@ -25,13 +25,12 @@ use Rattle.trace.proofs.Whole.{change-least}
 use Rattle.trace.proofs.Bound.{pairs-most, end-most}
 use Rattle.trace.proofs.RecordFits.{valid-small, valid-figures}
 use Rattle.changes.specs.Sounded.{Sounded}
+use Rattle.changes.proofs.Answered.{sounded-of}
 use Rattle.run.specs.Runs.{endingRoom, endingText, Ready, Played}
 
 -- bytes that write a valid state are sound, and reading them gives it again
-pub sounded-of : (bs : List ℕ) (s : State) → bs ≡ write s → Valid base s → Sounded bs × (read bs ≡ s)
-sounded-of bs s e ok =
-    let r : read bs ≡ s = ap read e ∙ read-write base s ok in
-    (record { written = e ∙ ap write (sym r); valid = subst (Valid base) (sym r) ok }, r)
+pub sounded-read : (bs : List ℕ) (s : State) → bs ≡ write s → Valid base s → Sounded bs × (read bs ≡ s)
+sounded-read bs s e ok = (sounded-of bs s e ok, ap read e ∙ read-write base s ok)
 
 -- the lines after those of the changes have room
 pub ending-most : (s : State) → Valid base s → length (endingText s) ≤ endingRoom
@@ -105,7 +104,7 @@ module _ {text : List ℕ} {from : ℕ} {rack₀ rack out₀ out : List ℕ} {i 
         let (q, t) = change-same c d (drop next text) (texts changeLine cs) (f .good) (fit .0) (sym (f .stands) ∙ g .rest-stands ∙ ap (texts changeLine) r) in
         let s : State = read rack in
         let w = step s (g .sounded .valid) c in
-        let (ok, b) = sounded-of now (change base s c .state) e (w .valid) in
+        let (ok, b) = sounded-read now (change base s c .state) e (w .valid) in
         let rest : g .rest ≡ c ∷ cs = r ∙ ap (λ (x : Change). x ∷ cs) (sym q) in
         let line = answerLine (change base s c .answer) in
         record {

@@ -26,7 +26,7 @@ use Rattle.trace.proofs.RecordFits.{record-fits-base}
 use Rattle.engine.proofs.Numbers.{make-five, make-new}
 use Rattle.changes.specs.Sounded.{Sounded}
 use Rattle.run.specs.Runs.{Ready, Played, Taken, Written}
-use Rattle.run.proofs.Turns.{sounded-of}
+use Rattle.run.proofs.Turns.{sounded-read}
 
 -- "n is 1 to 256"
 size-range : (n : ℕ) → sizeGood n ≡ true → (1 ≤ n) × (n ≤ most)
@@ -35,7 +35,7 @@ size-range n e = (leb→le 1 n (and-left (leb 1 n) (leb n most) (true-T e)), leb
 
 -- the rack just made
 pub fresh : (bs : List ℕ) (n : ℕ) → sizeGood n ≡ true → bs ≡ write (empty n) → Sounded bs × (read bs ≡ empty n)
-fresh bs n e w = let r = size-range n e in sounded-of bs (empty n) w (empty-valid base base-pos n (r .0) (r .1))
+fresh bs n e w = let r = size-range n e in sounded-read bs (empty n) w (empty-valid base base-pos n (r .0) (r .1))
 
 module _ (text : List ℕ) (n : ℕ) (old w : List ℕ) (k : ℕ) (t : Taken text n (length old)) (p : Put (rackLine n) old w k) where
   whole : text ≡ rackLine n ++ texts changeLine (t .changes)

@@ -4,6 +4,7 @@ pub mod Invariant
 pub mod Potential
 pub mod NewPairs
 pub mod Settled
+pub mod Involution
 pub mod TwiceCover
 pub mod Relation
 pub mod Ownership

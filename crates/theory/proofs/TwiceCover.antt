@@ -3,7 +3,7 @@ use mathlib.Core.Path.{_≡_, refl, sym, ap, subst}
 use mathlib.Core.Logic.{_≢_, _⊎_, inl, inr}
 use mathlib.Core.Bool.{Bool, true, false, not, _||_, _&&_, cond}
 use mathlib.Core.List.{List, [], _∷_}
-use Prim.Native.Nat.{ℕ, _+_, _*_, _≤_, _<_}
+use Prim.Native.Nat.{ℕ, _*_, _≤_, _<_}
 use native.Mathlib.Omega.{arith}
 use lib.Dec.{T, eqb, ltb, not-T, T-not, eqb→eq, eqb-refl, ltb→lt, lt→ltb}
 use lib.ListN.{length}
@@ -11,9 +11,10 @@ use Rattle.model.specs.Lists.{Mem, All, Distinct}
 use Rattle.model.specs.Counting.{count, sum, bit}
 use Rattle.model.specs.Moves.{Ends}
 use Rattle.model.proofs.Tests.{or-left, or-right, eq?, le?, and-intro, and-left, and-right, true-T, eqb-yes}
-use Rattle.model.proofs.Counting.{bit-no, bit-yes, bit-le, sum-add, sum-le, count-none, count-le-one, minus, minus-of, count-minus, inject, sum-eq, count-single}
+use Rattle.model.proofs.Counting.{bit-no, bit-yes, count-none, count-le-one, minus, minus-of, count-minus, inject, sum-eq, count-single}
 use Rattle.theory.specs.Demand.{Disjoint, Covers, vertices}
 use Rattle.theory.proofs.Marks.{Marks, Simple}
+use Rattle.theory.proofs.Involution.{count-moved}
 
 -- the pairs held: the vertices with a mate above them
 unfoldable pub pairsIn : ℕ → Marks → ℕ
@@ -92,25 +93,12 @@ cond-cases false x y = inr (tt, refl)
 
 module _ (n : ℕ) (there : ℕ → ℕ → Bool) (E : Simple n there) (s : Marks)
     (invol : (v : ℕ) → s .mate (s .mate v) ≡ v) (edge : (v : ℕ) → s .mate v ≢ v → T (there v (s .mate v))) where
-  -- at most two vertices to a pair
-  mated-pairs : count (mated s) n ≤ 2 * pairsIn n s
-  unfolding count pairsIn mated
+  -- two vertices to a pair
+  mated-pairs : count (mated s) n ≡ 2 * pairsIn n s
+  unfolding pairsIn mated
   mated-pairs =
-      let a : sum (λ v. bit (mated s v)) n ≤ sum (λ v. bit (ltb v (s .mate v)) + bit (ltb (s .mate v) v)) n =
-      sum-le (λ v. bit (mated s v)) (λ v. bit (ltb v (s .mate v)) + bit (ltb (s .mate v) v)) n
-      (λ v b. elim (eq? (s .mate v) v) [
-        | inl p ↦ omega (arith, bit-no (mated s v) (λ h. mated-ne s v h p))
-        | inr p ↦ elim (le? v (s .mate v)) [
-          | inl q ↦ omega (arith, bit-yes (ltb v (s .mate v)) (lt→ltb v (s .mate v) (omega arith)), bit-le (mated s v) true (λ h. tt))
-          | inr q ↦ omega (arith, bit-yes (ltb (s .mate v) v) (lt→ltb (s .mate v) v q), bit-le (mated s v) true (λ h. tt))
-        ]
-      ]) in
-      let b : count (λ v. ltb (s .mate v) v) n ≤ count (λ v. ltb v (s .mate v)) n =
-      inject (λ v. ltb (s .mate v) v) (λ v. ltb v (s .mate v)) n (s .mate) n
-      (λ v c h. let g : s .mate v < v = ltb→lt (s .mate v) v h in
-      (omega arith, lt→ltb (s .mate v) (s .mate (s .mate v)) (omega (arith, invol v))))
-      (λ v w c d h k e. cc (invol v, invol w)) in
-      omega (arith, a, b, sum-add (λ v. bit (ltb v (s .mate v))) (λ v. bit (ltb (s .mate v) v)) n)
+      count-moved n (s .mate) invol
+      (λ v l. elim (eq? (s .mate v) v) [ inl e ↦ omega arith | inr d ↦ E .inside v (s .mate v) (edge v d) ])
 
   -- where no edge has both ends free, any edges of which no two share a vertex are at most twice as many as the pairs
   pub twice : ((v w : ℕ) → T (there v w) → s .mate v ≡ v → s .mate w ≡ w → ⊥) → (m : List Ends) → Disjoint there m → length m ≤ 2 * pairsIn n s

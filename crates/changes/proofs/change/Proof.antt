@@ -5,7 +5,7 @@ use Rattle.model.specs.Bytes.{read}
 use Rattle.model.specs.Change.{number}
 use Rattle.changes.specs.Sounded.{brought}
 use Rattle.changes.proofs.Wholes.{sounded-held}
-use Rattle.changes.proofs.Answered.{acceptable, refused-answer, refused-leaves, accepted-held, accepted-answer, accepted-leaves}
+use Rattle.changes.proofs.Answered.{acceptable, refused-answer, refused-leaves, accepted-sounded, accepted-answer, accepted-leaves}
 use borrow.Author.Needs.{needs}
 use Rattle.changes.proofs.change.Statement.{statement}
 use Rattle.changes.proofs.change.Tie as tie
@@ -39,7 +39,7 @@ accepted-requires c κs =
 pairs-requires : tie.Need-pairs-requires
 pairs-requires c κs =
     let a = c .before .before .before .before .before .before .before .before .before .before .args in
-    accepted-held (a .rack .now) (c .before .before .before .before .before .before .before .before .before .before .pre) (a .code) (a .a) (a .b) (a .words .now) (fits (c .before .before .before .before .before)) (c .before .before .before .accepted .ensures) .0
+    accepted-sounded (a .rack .now) (c .before .before .before .before .before .before .before .before .before .before .pre) (a .code) (a .a) (a .b) (a .words .now) (fits (c .before .before .before .before .before)) (c .before .before .before .accepted .ensures)
 
 same-length-2 : tie.Need-same-length-2
 same-length-2 c = search needs

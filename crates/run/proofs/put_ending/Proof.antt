@@ -9,7 +9,6 @@ use Rattle.model.specs.Record.{pairLines}
 use Rattle.record.specs.Line.{endText}
 use Rattle.record.proofs.Laws.{end-line}
 use Rattle.text.proofs.Over.{put-as, put-then, put-kept, length-part}
-use Rattle.changes.proofs.Wholes.{sounded-held}
 use Rattle.trace.proofs.Bound.{pairs-most, end-most}
 use Rattle.trace.proofs.RecordFits.{valid-small}
 use Rattle.run.specs.Runs.{endingText}
@@ -21,7 +20,7 @@ put-pairs-requires : tie.Need-put-pairs-requires
 put-pairs-requires c κs = search needs
 
 pairs-requires : tie.Need-pairs-requires
-pairs-requires c κs = sounded-held _ (c .before .before .before .before .before .before .pre .0)
+pairs-requires c κs = c .before .before .before .before .before .before .pre .0
 
 -- the lines of the pairs leave room for the end line
 room : (c : tie.After-pairs) → c .before .before .before .put-pairs .result + 25 ≤ length (c .before .before .before .put-pairs .last .1 .0)
