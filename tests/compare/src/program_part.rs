@@ -1,6 +1,7 @@
 //! The program for traces, as it was compiled: what it prints for its standard
 //! input.
 
+use crate::runs::shown;
 use crate::texts::{families, stated, Case};
 use crate::Verdict;
 use reference::{program, RACK_BYTES, RECORD_SPACE, TEXT_LIMIT};
@@ -37,9 +38,9 @@ pub fn all(path: &str) -> Verdict {
 /// The texts with their names.
 fn inputs() -> Vec<(String, Vec<u8>, Pieces)> {
     let mut all = Vec::new();
-    for (name, case, _, _) in stated() {
-        all.push((name.to_string(), case.text.clone(), None));
-        all.push((format!("{name} in pieces"), case.text, Some(7)));
+    for run in stated() {
+        all.push((run.name.to_string(), run.case.text.clone(), None));
+        all.push((format!("{} in pieces", run.name), run.case.text, Some(7)));
     }
     let lent = |case: &Case| case.rack == RACK_BYTES && case.space == RECORD_SPACE;
     for family in families() {
@@ -72,8 +73,8 @@ fn long(length: usize) -> Vec<u8> {
 fn one(path: &str, input: Vec<u8>, pieces: Pieces, wanted: &[u8]) -> Verdict {
     let output = fed(path, input, pieces).map_err(|why| format!("{path}: {why}"))?;
     if output.stdout != wanted {
-        let [came, wanted] = [&output.stdout[..], wanted].map(|text| text.escape_ascii());
-        return Err(format!("it printed {came}, wanted {wanted}"));
+        let [came, wanted] = [&output.stdout[..], wanted].map(shown);
+        return Err(format!("it printed {came}\nwanted {wanted}"));
     }
     match output.status.code() {
         Some(0) => Ok(()),

@@ -3,7 +3,7 @@
 use crate::both::same;
 use crate::run_tally::Tally;
 use crate::runs::Stage;
-use crate::texts::{families, stated, Family, EXAMPLE, EXAMPLE_RECORD};
+use crate::texts::{families, stated, Family};
 use crate::Verdict;
 use std::io::Write;
 use std::str::from_utf8;
@@ -24,12 +24,15 @@ pub fn all() -> Verdict {
 }
 
 fn as_stated(stage: &Stage) -> Verdict {
-    for (name, case, number, line) in stated() {
-        let ran = stage.run(&case).map_err(|why| format!("{name}: {why}"))?;
+    for run in stated() {
+        let name = run.name;
+        let ran = stage
+            .run(&run.case)
+            .map_err(|why| format!("{name}: {why}"))?;
         let told = (ran.outcome.number, ran.outcome.line);
-        same(name, told, (number, line))?;
-        if case.text == EXAMPLE.as_bytes() {
-            same(name, from_utf8(&ran.record), Ok(EXAMPLE_RECORD))?;
+        same(name, told, (run.number, run.line))?;
+        if let Some(record) = run.record {
+            same(name, from_utf8(&ran.record), Ok(record))?;
         }
     }
     Ok(())
@@ -56,11 +59,7 @@ fn of_family(stage: &Stage, family: &Family, tally: &mut Tally) -> Verdict {
         family.name,
         told.join(", ")
     );
-    match family
-        .meets
-        .iter()
-        .find(|&&number| numbers[number as usize] == 0)
-    {
+    match family.missed(&numbers) {
         Some(number) => Err(format!("number {number} never came")),
         None => Ok(()),
     }

@@ -37,7 +37,7 @@ impl Stage {
 
     pub fn run(&self, case: &Case) -> Result<Ran, String> {
         self.both(case)
-            .map_err(|why| format!("{why}\nin {}", shown(&case.text)))
+            .map_err(|why| format!("{why}\nin a text of {}", shown(&case.text)))
     }
 
     fn both(&self, case: &Case) -> Result<Ran, String> {
@@ -99,9 +99,9 @@ fn differs(core: &[u8], wanted: &[u8]) -> usize {
 }
 
 /// A text as a message shows it.
-fn shown(text: &[u8]) -> String {
+pub fn shown(text: &[u8]) -> String {
     let most = text.len().min(SHOWN);
     let dots = if most < text.len() { ".." } else { "" };
     let escaped = text[..most].escape_ascii();
-    format!("a text of {} bytes: {escaped}{dots}", text.len())
+    format!("{} bytes: {escaped}{dots}", text.len())
 }

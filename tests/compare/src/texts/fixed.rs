@@ -4,7 +4,7 @@ use super::lengths::exact;
 use super::Case;
 use reference::TEXT_LIMIT;
 
-pub const EXAMPLE: &str = "\
+const EXAMPLE: &str = "\
 (rack (boards 4))
 (add (0 1) (draws 0 0))
 (add (1 2) (draws 0 0))
@@ -13,7 +13,7 @@ pub const EXAMPLE: &str = "\
 (add (2 3) (draws 0 0))
 ";
 
-pub const EXAMPLE_RECORD: &str = "\
+const EXAMPLE_RECORD: &str = "\
 (rack (boards 4))
 (done (draws 1) (falls 0) (pairs 1))
 (done (draws 0) (falls 0) (pairs 1))
@@ -24,23 +24,31 @@ pub const EXAMPLE_RECORD: &str = "\
 (end (pairs 1))
 ";
 
-/// Each with its name, number and line.
-pub fn stated() -> Vec<(&'static str, Case, u32, usize)> {
+/// A run with the number, the line and, for the example, the record stated.
+pub struct Stated {
+    pub name: &'static str,
+    pub case: Case,
+    pub number: u32,
+    pub line: usize,
+    pub record: Option<&'static str>,
+}
+
+pub fn stated() -> Vec<Stated> {
+    let of = |name, text: Vec<u8>, number, line| Stated {
+        name,
+        case: Case::of(text),
+        number,
+        line,
+        record: None,
+    };
     vec![
-        ("the worked example", Case::of(EXAMPLE), 0, 0),
-        ("P12, empty text", Case::of(""), 4, 1),
-        ("P13, 16,384 bytes", Case::of(exact(0, TEXT_LIMIT)), 0, 0),
-        (
-            "P13, 16,385 bytes",
-            Case::of(exact(0, TEXT_LIMIT + 1)),
-            2,
-            0,
-        ),
-        (
-            "P13, 16,385 line feeds",
-            Case::of(vec![b'\n'; TEXT_LIMIT + 1]),
-            2,
-            0,
-        ),
+        Stated {
+            record: Some(EXAMPLE_RECORD),
+            ..of("the worked example", EXAMPLE.into(), 0, 0)
+        },
+        of("P12, empty text", vec![], 4, 1),
+        of("P13, 16,384 bytes", exact(0, TEXT_LIMIT), 0, 0),
+        of("P13, 16,385 bytes", exact(0, TEXT_LIMIT + 1), 2, 0),
+        of("P13, 16,385 line feeds", vec![b'\n'; TEXT_LIMIT + 1], 2, 0),
     ]
 }

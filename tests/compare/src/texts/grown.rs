@@ -1,5 +1,6 @@
 //! Traces grown along a rack: of few boards, of many, around hubs that reach
-//! the highest level, and fans, in which one drop draws and falls by the dozen.
+//! the highest level, of many pairs, and fans, in which one drop draws and falls
+//! by the dozen.
 
 use super::trace::{words, Style, Trace, STYLES};
 use super::{Case, Family};
@@ -20,6 +21,7 @@ pub fn families() -> Vec<Family> {
             grown(k, 65, 256)
         }),
         Family::new("traces around hubs", 90, &[0], hub),
+        Family::new("traces of many pairs", 30, &[0], many_pairs),
         Family::new("traces of fans", 3 * MOST_RIBS, &[0], fan),
     ]
 }
@@ -72,7 +74,26 @@ fn hub(seed: u64) -> Case {
             break;
         }
     }
-    while parted(&mut trace, &mut random, style, hub).is_some() {}
+    // Half of the traces end soon, with the hub still at level 3.
+    let goes_on = random.pick(&[60, 100]);
+    while random.percent(goes_on) && parted(&mut trace, &mut random, style, hub).is_some() {}
+    trace.into()
+}
+
+/// Every board is linked to one other, in any order, and some pairs are dropped.
+fn many_pairs(seed: u64) -> Case {
+    let mut random = Random::new(0x2400_0000 + seed);
+    let n = random.between(120, 170);
+    let mut order: Vec<usize> = (0..n).collect();
+    random.shuffle(&mut order);
+    let mut trace = Trace::start(n, TEXT_LIMIT);
+    for two in order.chunks_exact(2) {
+        let words = words(&mut random, Style::Short, n / 2);
+        trace.change(1, two[0], two[1], &words);
+        if random.percent(4) {
+            trace.change(2, two[1], two[0], &words);
+        }
+    }
     trace.into()
 }
 

@@ -13,7 +13,7 @@ mod numbers;
 mod soup;
 mod trace;
 
-pub use fixed::{stated, EXAMPLE, EXAMPLE_RECORD};
+pub use fixed::stated;
 
 use reference::{RACK_BYTES, RECORD_SPACE};
 
@@ -44,7 +44,7 @@ impl Case {
 pub struct Family {
     pub name: String,
     pub cases: u64,
-    pub meets: &'static [u32],
+    meets: &'static [u32],
     pub make: Box<dyn Fn(u64) -> Case>,
 }
 
@@ -61,6 +61,13 @@ impl Family {
             meets,
             make: Box::new(make),
         }
+    }
+
+    /// A number that must be among the answers and isn't, given how often each
+    /// came.
+    pub fn missed(&self, numbers: &[u64; 6]) -> Option<u32> {
+        let never = |number: &u32| numbers[*number as usize] == 0;
+        self.meets.iter().copied().find(never)
     }
 }
 
