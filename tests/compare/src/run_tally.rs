@@ -4,12 +4,15 @@
 use crate::runs::Ran;
 use crate::texts::Case;
 use crate::Verdict;
-use reference::grammar;
+use reference::checks::texts::first_bad_line;
+use reference::{grammar, RACK_BYTES, RECORD_SPACE, TEXT_LIMIT};
 use std::str::from_utf8;
 
 pub struct Tally {
     runs: u64,
     numbers: [u64; 6],
+    /// Runs that meet two numbers at once, the lower first.
+    at_once: [[u64; 6]; 6],
     /// Change lines of records: accepted, and refused by their number.
     done: u64,
     refused: [u64; 13],
@@ -30,6 +33,7 @@ impl Default for Tally {
         Tally {
             runs: 0,
             numbers: [0; 6],
+            at_once: [[0; 6]; 6],
             done: 0,
             refused: [0; 13],
             pairs: [0; 4],
@@ -47,7 +51,7 @@ impl Tally {
         self.runs += 1;
         self.numbers[ran.outcome.number as usize] += 1;
         if ran.outcome.number != 0 {
-            return;
+            return self.note_numbers(case);
         }
         self.longest = self.longest.max(ran.outcome.length);
         if let Ok(top) = usize::try_from(case.top) {
@@ -57,6 +61,15 @@ impl Tally {
             self.note_line(line);
         }
         self.note_text(&case.text);
+    }
+
+    fn note_numbers(&mut self, case: &Case) {
+        let met = met(case);
+        for (place, &lower) in met.iter().enumerate() {
+            for &higher in &met[place + 1..] {
+                self.at_once[lower][higher] += 1;
+            }
+        }
     }
 
     /// A line of a record.
@@ -93,6 +106,8 @@ impl Tally {
             "{} runs in all, by their number {:?}",
             self.runs, self.numbers
         );
+        let at_once: u64 = self.at_once.iter().flatten().sum();
+        println!("two numbers met at once {at_once} times");
         println!(
             "{} changes done, refused with 8 to 12 {refused:?}",
             self.done
@@ -110,17 +125,25 @@ impl Tally {
 
     /// An error if something that can come never did.
     pub fn nothing_missed(&self) -> Verdict {
-        let kinds: [(&str, &[u64]); 6] = [
-            ("number", &self.numbers),
-            ("refused, number 8 and", &self.refused[8..]),
-            ("a pair at level", &self.pairs),
-            ("a run up to level", &self.tops),
-            ("a line with a number of words,", &self.words),
-            ("a word with digits, one and", &self.digits),
+        // The first of each is that of this number.
+        let kinds: [(&str, usize, &[u64]); 6] = [
+            ("number", 0, &self.numbers),
+            ("refused with", 8, &self.refused[8..]),
+            ("a pair at level", 0, &self.pairs),
+            ("a run up to level", 0, &self.tops),
+            ("a line whose number of words is", 0, &self.words),
+            ("a word whose number of digits is", 1, &self.digits),
         ];
-        for (name, kind) in kinds {
-            if let Some(missed) = kind.iter().position(|&times| times == 0) {
-                return Err(format!("never met: {name} {missed}"));
+        for (name, first, kind) in kinds {
+            if let Some(place) = kind.iter().position(|&times| times == 0) {
+                return Err(format!("never met: {name} {}", first + place));
+            }
+        }
+        for lower in 1..6 {
+            for higher in lower + 1..6 {
+                if self.at_once[lower][higher] == 0 {
+                    return Err(format!("never met: {lower} and {higher} at once"));
+                }
             }
         }
         match self.most.iter().all(|&most| most >= 10) {
@@ -128,4 +151,24 @@ impl Tally {
             false => Err("never met: draws, falls and pairs of two digits".into()),
         }
     }
+}
+
+/// The numbers that a run meets, each looked at by itself.
+fn met(case: &Case) -> Vec<usize> {
+    let met = [
+        case.rack != RACK_BYTES,
+        case.text.len() > TEXT_LIMIT,
+        case.space < RECORD_SPACE,
+        first_bad_line(&case.text).is_some(),
+        boards(&case.text).is_some_and(|n| n == 0 || n > 256),
+    ];
+    (1..6).filter(|&number| met[number - 1]).collect()
+}
+
+/// The board number that a text's first line names.
+fn boards(text: &[u8]) -> Option<u64> {
+    let line = text.split(|&byte| byte == b'\n').next()?;
+    let line = from_utf8(line).ok()?;
+    let number = line.strip_prefix("(rack (boards ")?.strip_suffix("))")?;
+    number.parse().ok()
 }

@@ -18,7 +18,7 @@ const DAMAGES: [(&str, Damage); 36] = [
     ("a space somewhere", |r, t| put_anywhere(r, t, b" ")),
     ("a doubled bracket", |r, t| doubled(r, t, b"()")),
     ("a missing bracket", |r, t| missing(r, t, b"()")),
-    ("a turned bracket", turned_bracket),
+    ("a turned bracket", |r, t| turned_bracket(r, t)),
     ("a leading zero", |r, t| before_number(r, t, b"0")),
     ("many leading zeros", |r, t| {
         before_number(r, t, &[b'0'; 40])

@@ -32,7 +32,7 @@ pub fn change_one(
     text[at] = to(random, text[at]);
 }
 
-pub fn turned_bracket(random: &mut Random, text: &mut Vec<u8>) {
+pub fn turned_bracket(random: &mut Random, text: &mut [u8]) {
     let other = |_: &mut Random, byte: u8| if byte == b'(' { b')' } else { b'(' };
     change_one(random, text, |byte| b"()".contains(byte), other);
 }

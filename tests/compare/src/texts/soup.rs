@@ -89,10 +89,10 @@ fn pieces(seed: u64) -> Case {
 
 /// A change line piece by piece, each of which is at times another.
 fn line(random: &mut Random) -> String {
-    let mut piece = |usual: &str| match random.below(40) {
+    let piece = |usual: &str| match random.below(40) {
         0 => random.pick(&PIECES).to_string(),
         _ => usual.to_string(),
     };
     let parts = ["(add (", "0", " ", "1", ") (draws", " 5", " 12", "))\n"];
-    parts.map(|part| piece(part)).concat()
+    parts.map(piece).concat()
 }
