@@ -1,17 +1,29 @@
 /*
  * The worked example of document 01 by the calls of the core: five changes on a rack of 4 boards, then all levels, mates and links, and the
- * audit, at last of a damaged rack. It prints what example.out holds.
+ * audit, at last of a damaged rack; then the same changes as a trace text, run to its record, and the text with a line that doesn't fit. It
+ * prints what example.out holds.
  *
  * cc -std=c99 -o example example.c DIRECTORY/libpairing.a
  */
 #include <inttypes.h>
 #include <stdio.h>
+#include <string.h>
 
 #include "pairing.h"
 
 #define BOARDS 4
 
 static uint8_t rack[PAIRING_RACK_BYTES];
+static uint8_t space[PAIRING_RECORD_SPACE];
+
+/* The trace of document 01. */
+static const char trace[] =
+    "(rack (boards 4))\n"
+    "(add (0 1) (draws 0 0))\n"
+    "(add (1 2) (draws 0 0))\n"
+    "(add (2 3) (draws 0 0))\n"
+    "(drop (0 1) (draws 0 0))\n"
+    "(add (2 3) (draws 0 0))\n";
 
 static void change(uint32_t code, uint32_t a, uint32_t b)
 {
@@ -63,6 +75,18 @@ static void audit(void)
         printf("audit: number %" PRIu32 "\n", number);
 }
 
+/* Prints what the program for traces prints. */
+static void run(const char *text, size_t text_len)
+{
+    size_t line, length;
+    uint32_t number = pairing_run(rack, sizeof rack, (const uint8_t *)text, text_len, space, sizeof space, &line, &length);
+
+    if (number == PAIRING_OK)
+        fwrite(space, 1, length, stdout);
+    else
+        printf("(bad %" PRIu32 " %zu)\n", number, line);
+}
+
 int main(void)
 {
     uint32_t v;
@@ -81,5 +105,8 @@ int main(void)
     rack[4] = 1;
     audit();
     board(0);
+    run(trace, strlen(trace));
+    audit();
+    run(trace, strlen(trace) - 1);
     return 0;
 }

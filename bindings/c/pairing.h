@@ -5,7 +5,7 @@
  *
  * Every function gives a number: 0 if it ran, or the first reason that fits for which it was turned back. Turned back, it writes nothing
  * lent, and every other figure is 0. All figures are written at each call. No pointer may be null, and what is lent to one call may not
- * overlap. A length is in elements: bytes of the rack, or words.
+ * overlap. A length is in elements: bytes of the rack, of a text or of a record space, or words.
  */
 #ifndef PAIRING_H
 #define PAIRING_H
@@ -23,6 +23,10 @@ extern "C" {
 /* The most vertices. */
 #define PAIRING_MOST_VERTICES 256
 
+/* The most bytes of a trace text, and the least of a record space: a record of any such text fits. */
+#define PAIRING_TEXT_LIMIT 16384
+#define PAIRING_RECORD_SPACE 65536
+
 /* The mate of a free vertex. */
 #define PAIRING_FREE 65535
 
@@ -33,6 +37,9 @@ extern "C" {
 /* The numbers. 2 to 4 are met only by the running of a trace text. */
 #define PAIRING_OK 0
 #define PAIRING_BAD_LENGTH 1       /* The rack buffer isn't 9,992 bytes. */
+#define PAIRING_LONG_TEXT 2        /* The trace text is over 16,384 bytes. */
+#define PAIRING_SHORT_SPACE 3      /* The record space is under 65,536 bytes. */
+#define PAIRING_BAD_LINE 4         /* The trace text doesn't fit the grammar. */
 #define PAIRING_BAD_VERTEX_COUNT 5 /* The number of vertices asked for isn't 1 to 256. */
 #define PAIRING_UNSOUND 6          /* The rack isn't sound. */
 #define PAIRING_BAD_CODE 7         /* The change code is neither 1 nor 2. */
@@ -79,6 +86,16 @@ uint32_t pairing_linked(const uint8_t *rack, size_t len, uint32_t v, uint32_t w,
  */
 uint32_t pairing_change(uint8_t *rack, size_t len, uint32_t code, uint32_t a, uint32_t b, const uint32_t *words, size_t count, uint32_t *draws,
                         uint32_t *falls, uint32_t *pairs);
+
+/*
+ * Runs a trace text: makes the rack that its line 1 asks for in the buffer, whatever its bytes hold before, makes the changes of the further
+ * lines on it, and writes the record into the space. The whole text is read before anything is written. A change that is refused (8 to 12)
+ * is a line of the record and ends nothing. *length is the record's length; the bytes of the space past it keep their values. *line is the
+ * first line that doesn't fit, counted from 1, if the number is 4, and otherwise 0.
+ * Numbers: 0 to 5.
+ */
+uint32_t pairing_run(uint8_t *rack, size_t len, const uint8_t *text, size_t text_len, uint8_t *space, size_t space_len, size_t *line,
+                     size_t *length);
 
 #ifdef __cplusplus
 }

@@ -7,7 +7,8 @@ use tuned::{RackBytes, RACK_BYTES};
 /// All edges among 256 vertices.
 pub const DENSEST: usize = 32_640;
 
-/// Changes of a series, and racks along it that are kept for direct changes.
+/// Changes of a long series, and racks along it that are kept for direct
+/// changes.
 pub const SERIES: usize = 8_192;
 pub const DIRECT: usize = 256;
 
@@ -56,6 +57,7 @@ pub fn with_edges(edges: usize) -> RackBytes {
 /// then stays about as it is.
 pub struct Series {
     pub n: usize,
+    length: usize,
     pub changes: Vec<Change>,
     pub words: Vec<u32>,
     /// A rack here and there along the series, with the place of its change.
@@ -65,12 +67,18 @@ pub struct Series {
 }
 
 impl Series {
+    /// A long series on n vertices.
     pub fn of(n: usize) -> Series {
+        Series::of_length(n, SERIES)
+    }
+
+    pub fn of_length(n: usize, length: usize) -> Series {
         let mut random = Random(n as u64);
         let words = (0..STORE).map(|_| random.bits() as u32).collect();
         let mut series = Series {
             n,
-            changes: Vec::with_capacity(SERIES),
+            length,
+            changes: Vec::with_capacity(length),
             words,
             racks: Vec::with_capacity(DIRECT),
             end: fresh(n),
@@ -79,7 +87,7 @@ impl Series {
             rack: fresh(n),
             edges: Vec::new(),
         };
-        while series.changes.len() < SERIES {
+        while series.changes.len() < length {
             series.extend(&mut random, &mut walk);
         }
         series.end = walk.rack;
@@ -92,14 +100,19 @@ impl Series {
 
     /// The words of a change, as many as it must bring.
     pub fn words(&self, change: &Change) -> &[u32] {
-        &self.words[change.words_at..change.words_at + self.n / 2]
+        self.more_words(change, self.n / 2)
+    }
+
+    /// So many words from the place of those of a change on.
+    pub fn more_words(&self, change: &Change, number: usize) -> &[u32] {
+        &self.words[change.words_at..change.words_at + number]
     }
 
     /// Tries one change on the walk, and takes it into the series if it is
     /// accepted.
     fn extend(&mut self, random: &mut Random, walk: &mut Walk) {
         let place = self.changes.len();
-        let adds = if place < SERIES / 2 { 75 } else { 50 };
+        let adds = if place < self.length / 2 { 75 } else { 50 };
         let (code, a, b) = walk.choose(random, self.n, adds);
         let words_at = random.below(STORE - 128);
         let change = Change {
@@ -151,25 +164,4 @@ impl Walk {
             self.edges.retain(|&other| other != edge);
         }
     }
-}
-
-/// A trace text with as many of the first changes of a series as it can hold.
-pub fn text(series: &Series) -> (Vec<u8>, usize) {
-    let mut text = format!("(rack (boards {}))\n", series.n);
-    let mut lines = 0;
-    for change in &series.changes {
-        let name = if change.code == 1 { "add" } else { "drop" };
-        let words: String = series
-            .words(change)
-            .iter()
-            .map(|word| format!(" {}", word % 10))
-            .collect();
-        let line = format!("({name} ({} {}) (draws{words}))\n", change.a, change.b);
-        if text.len() + line.len() > tuned::TEXT_LIMIT {
-            break;
-        }
-        text += &line;
-        lines += 1;
-    }
-    (text.into_bytes(), lines)
 }

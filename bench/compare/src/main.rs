@@ -5,12 +5,14 @@
 //! counts instructions, and prints how many calls, or changes of runs, that
 //! was. SIDE is core, tuned or bare (tuned without the audit before a change);
 //! KIND is audit (SIZE: links of 256 boards), direct, before (the audits of
-//! the racks of direct), series or run (SIZE: boards).
+//! the racks of direct), series, or a kind of text to run: run, refused or
+//! words (SIZE: boards).
 
 mod cases;
 mod once;
 mod side;
 mod table;
+mod texts;
 
 use side::Side;
 use std::env;

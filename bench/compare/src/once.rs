@@ -2,8 +2,9 @@
 //! instructions. All that is made beforehand is the same for any number of
 //! calls, so that a run with none can be taken off.
 
-use crate::cases::{text, with_edges, Series};
+use crate::cases::{with_edges, Series};
 use crate::side::Side;
+use crate::texts::Text;
 use std::hint::black_box;
 use tuned::{RACK_BYTES, RECORD_SPACE};
 
@@ -15,8 +16,10 @@ pub fn once(side: Side, kind: &str, size: usize, calls: usize) -> Result<usize, 
         "direct" => direct(side, size, calls),
         "before" => before(side, size, calls),
         "series" => series(side, size, calls),
-        "run" => runs(side, size, calls),
-        _ => Err(format!("no such kind: {kind}")),
+        _ => match Text::of(kind, size) {
+            Some(text) => Ok(runs(side, &text, calls)),
+            None => Err(format!("no such kind: {kind}")),
+        },
     }
 }
 
@@ -80,16 +83,18 @@ fn series(side: Side, n: usize, calls: usize) -> Result<usize, String> {
     Ok(calls)
 }
 
-fn runs(side: Side, n: usize, calls: usize) -> Result<usize, String> {
-    let (text, changes) = text(&Series::of(n));
-    let mut rack = [0; RACK_BYTES];
-    let mut space = vec![0; RECORD_SPACE];
-    let run = side.run(&mut rack, &text, &mut space);
-    run.ok_or("this side has no run")?;
+/// Runs of one text. Both sides must come to the same record and rack.
+fn runs(side: Side, text: &Text, calls: usize) -> usize {
+    let (mut rack, mut wanted) = ([0; RACK_BYTES], [0; RACK_BYTES]);
+    let (mut space, mut record) = (vec![0; RECORD_SPACE], vec![0; RECORD_SPACE]);
+    let came = side.run(&mut rack, text.bytes(), &mut space);
+    let number = Side::Tuned.run(&mut wanted, text.bytes(), &mut record).0;
+    assert_eq!((came.0, number), (0, 0), "a text that fits");
+    assert!(rack == wanted && space == record, "another record or rack");
     measured(|| {
         for _ in 0..calls {
-            black_box(side.run(&mut rack, black_box(&text), &mut space));
+            black_box(side.run(&mut rack, black_box(text.bytes()), &mut space));
         }
     });
-    Ok(calls * changes)
+    calls * text.changes
 }

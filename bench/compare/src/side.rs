@@ -43,14 +43,15 @@ impl Side {
         [answer.number, answer.draws, answer.falls, answer.pairs]
     }
 
-    /// A run's number and the length of its record; none from the core, which
-    /// doesn't export it yet.
-    pub fn run(self, rack: &mut RackBytes, text: &[u8], space: &mut [u8]) -> Option<(u32, usize)> {
+    /// A run's number and the length of its record. No run audits a change, so
+    /// the tuned program has no other form.
+    pub fn run(self, rack: &mut RackBytes, text: &[u8], space: &mut [u8]) -> (u32, usize) {
         if self == Side::Core {
-            return None;
+            let outcome = pairing::run(rack, text, space);
+            return (outcome.number, outcome.length);
         }
         let outcome = tuned::run(rack, text, space);
-        Some((outcome.number, outcome.length))
+        (outcome.number, outcome.length)
     }
 }
 

@@ -1,7 +1,8 @@
 //! The table of times: both sides in one run, on the same racks.
 
-use crate::cases::{text, with_edges, Series, DENSEST};
+use crate::cases::{with_edges, Series, DENSEST};
 use crate::side::Side;
+use crate::texts::{Text, TEXTS};
 use std::hint::black_box;
 use std::time::Instant;
 use tuned::{RackBytes, RACK_BYTES, RECORD_SPACE};
@@ -11,8 +12,9 @@ use tuned::{RackBytes, RACK_BYTES, RECORD_SPACE};
 const TURNS: usize = 15;
 const SECONDS: u64 = 4;
 
-/// Audits in one turn.
+/// Audits and runs in one turn.
 const AUDITS: usize = 200;
+const RUNS: usize = 10;
 
 /// Nanoseconds a call of the core, the tuned program, and the tuned program
 /// without audits; none if a side has no such call.
@@ -31,9 +33,17 @@ pub fn print() {
         let series = Series::of(n);
         line(&format!("change, n = {n}"), direct(&series));
         line(&format!("change in series, n = {n}"), long(&series));
-        line(&format!("change in a run, n = {n}"), runs(&series));
+    }
+    for (kind, n) in TEXTS {
+        let text = Text::of(kind, n).expect("a kind of text");
+        let name = match kind {
+            "run" => format!("change in a run, n = {n}"),
+            _ => format!("{kind}, n = {n}"),
+        };
+        line(&name, runs(&text));
     }
     println!("bare: the tuned change without its audit; a run audits no change");
+    println!("refused: a run in which four of five changes are refused; words: one with 128 words of ten digits a change");
 }
 
 fn line(name: &str, times: Times) {
@@ -111,15 +121,16 @@ fn long(series: &Series) -> Times {
 }
 
 /// A change of a run, on average, with its share of reading and printing.
-fn runs(series: &Series) -> Times {
-    let (text, changes) = text(series);
+fn runs(text: &Text) -> Times {
     let mut rack = [0; RACK_BYTES];
     let mut space = vec![0; RECORD_SPACE];
     best(|side| {
-        let mut ran = side != Side::Bare;
-        let time = timed(changes, || {
-            ran = ran && side.run(&mut rack, black_box(&text), &mut space).is_some();
-        });
-        ran.then_some(time)
+        let work = || {
+            for _ in 0..RUNS {
+                let run = side.run(&mut rack, black_box(text.bytes()), &mut space);
+                assert_eq!(run.0, 0, "a text that fits");
+            }
+        };
+        (side != Side::Bare).then(|| timed(RUNS * text.changes, work))
     })
 }

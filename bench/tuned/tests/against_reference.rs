@@ -7,6 +7,7 @@ mod asked;
 mod damage;
 #[path = "../../../tests/compare/src/racks.rs"]
 mod racks;
+#[path = "../../../tests/compare/src/texts/mod.rs"]
 mod texts;
 
 use asked::Asked;
@@ -229,43 +230,53 @@ fn damaged_racks_are_turned_back() {
 }
 
 /// One text: the same outcome, the same record space and the same rack.
-fn one_text(text: &[u8], record: usize, told: &str) -> u32 {
+fn one_text(case: &texts::Case, told: &str) -> u32 {
     let mut wanted_rack = vec![7; RACK_BYTES];
-    let mut wanted_record = vec![8; record];
-    let wanted = reference::run(&mut wanted_rack, text, &mut wanted_record);
+    let mut wanted_space = vec![8; case.space];
+    let wanted = reference::run(&mut wanted_rack, &case.text, &mut wanted_space);
     let mut rack = [7; RACK_BYTES];
-    let mut space = vec![8; record];
-    let came = tuned::run(&mut rack, text, &mut space);
-    let wanted_figures = (wanted.number, wanted.line, wanted.length);
-    assert_eq!(
-        (came.number, came.line, came.length),
-        wanted_figures,
-        "{told}"
-    );
-    assert!(space == wanted_record, "{told}: another record");
+    let mut space = vec![8; case.space];
+    let came = tuned::run(&mut rack, &case.text, &mut space);
+    let figures = (wanted.number, wanted.line, wanted.length);
+    assert_eq!((came.number, came.line, came.length), figures, "{told}");
+    assert!(space == wanted_space, "{told}: another record");
     assert!(rack[..] == wanted_rack[..], "{told}: another rack");
     wanted.number
 }
 
+/// All texts that the core is tried on, but for rack buffers of another length,
+/// which this program isn't made for.
 #[test]
 fn texts() {
-    let mut run = 0;
-    for seed in 0..8_000 {
-        let mut random = Random::new(0x64_0000 + seed);
-        let text = texts::text(&mut random);
-        let record = random.pick(&[65_536, 65_536, 65_536, 65_541, 65_535]);
-        let number = one_text(&text, record, &format!("text of seed {seed}"));
-        run += u64::from(number == 0);
+    let mut top = -1;
+    for family in texts::families() {
+        let mut numbers = [0; 6];
+        // Number 1 is the one for a rack buffer of another length.
+        numbers[1] = 1;
+        for place in 0..family.cases {
+            let case = (family.make)(place);
+            if case.rack != RACK_BYTES {
+                continue;
+            }
+            let told = format!("{}, case {place}", family.name);
+            numbers[one_text(&case, &told) as usize] += 1;
+            top = top.max(case.top);
+        }
+        assert_eq!(family.missed(&numbers), None, "{}", family.name);
     }
-    assert!(run > 2_000, "only {run} texts were run");
+    assert_eq!(top, 3, "the highest level reached");
 }
 
 #[test]
-fn lines_that_do_not_fit() {
-    for line in texts::LINES {
-        for text in texts::around(line) {
-            one_text(text.as_bytes(), 65_536, &format!("text {text:?}"));
+fn texts_with_a_stated_outcome() {
+    for run in texts::stated() {
+        one_text(&run.case, run.name);
+        let mut space = vec![0; run.case.space];
+        let came = tuned::run(&mut [0; RACK_BYTES], &run.case.text, &mut space);
+        let stated = (run.number, run.line);
+        assert_eq!((came.number, came.line), stated, "{}", run.name);
+        if let Some(record) = run.record {
+            assert_eq!(&space[..came.length], record.as_bytes(), "{}", run.name);
         }
     }
-    one_text(b"", 65_536, "empty text");
 }

@@ -25,4 +25,15 @@ extern "C" {
         falls: *mut u32,
         pairs: *mut u32,
     ) -> u32;
+
+    pub fn pairing_run(
+        rack: *mut u8,
+        len: usize,
+        text: *const u8,
+        text_len: usize,
+        space: *mut u8,
+        space_len: usize,
+        line: *mut usize,
+        length: *mut usize,
+    ) -> u32;
 }

@@ -9,6 +9,9 @@
 //! other figure is 0.
 //!
 //! - 1: the rack buffer isn't 9,992 bytes
+//! - 2: the trace text is over 16,384 bytes
+//! - 3: the record space is under 65,536 bytes
+//! - 4: the trace text doesn't fit the grammar
 //! - 5: the number of vertices asked for isn't 1 to 256
 //! - 6: the rack isn't sound
 //! - 7: the change code is neither 1 (add) nor 2 (drop)
@@ -25,11 +28,36 @@
 //! assert_eq!((answer.number, answer.draws, answer.pairs), (0, 1, 1));
 //! assert_eq!(pairing::mate(&rack, 0), (0, 1));
 //! ```
+//!
+//! The same change as a trace text, and its record:
+//!
+//! ```
+//! let mut rack = vec![0; pairing::RACK_BYTES];
+//! let mut space = vec![0; pairing::RECORD_SPACE];
+//! let text = b"(rack (boards 4))\n(add (0 1) (draws 0 0))\n(add (0 1) (draws 0 0))\n";
+//! let outcome = pairing::run(&mut rack, text, &mut space);
+//! assert_eq!(outcome.number, 0);
+//! let record = "(rack (boards 4))\n\
+//!               (done (draws 1) (falls 0) (pairs 1))\n\
+//!               (refused 10)\n\
+//!               (pair (0 1) (level 0))\n\
+//!               (end (pairs 1))\n";
+//! assert_eq!(&space[..outcome.length], record.as_bytes());
+//! assert_eq!(pairing::mate(&rack, 0), (0, 1));
+//!
+//! // Without its last byte the text's third line doesn't fit.
+//! let outcome = pairing::run(&mut rack, &text[..text.len() - 1], &mut space);
+//! assert_eq!((outcome.number, outcome.line, outcome.length), (4, 3, 0));
+//! ```
 
 mod exported;
 
 /// The length of a rack.
 pub const RACK_BYTES: usize = 9_992;
+
+/// The most bytes of a trace text, and the least of a record space.
+pub const TEXT_LIMIT: usize = 16_384;
+pub const RECORD_SPACE: usize = 65_536;
 
 /// The mate of a free vertex.
 pub const FREE: u32 = 65_535;
@@ -50,6 +78,15 @@ pub struct Answer {
     pub draws: u32,
     pub falls: u32,
     pub pairs: u32,
+}
+
+/// The answer of a run: its number, the first line that doesn't fit if that is
+/// 4, and the record's length if it is 0.
+#[derive(Clone, Copy, Debug, PartialEq, Eq)]
+pub struct Outcome {
+    pub number: u32,
+    pub line: usize,
+    pub length: usize,
 }
 
 /// Makes the buffer a rack of n vertices without edges. The number is 0, 1 or
@@ -116,5 +153,30 @@ pub fn change(rack: &mut [u8], code: u32, a: u32, b: u32, words: &[u32]) -> Answ
         draws,
         falls,
         pairs,
+    }
+}
+
+/// Runs a trace text: the rack that it asks for is made in the buffer and
+/// changed line by line, and the record stands at the start of the space, whose
+/// further bytes keep their values. The number is 0 to 5.
+pub fn run(rack: &mut [u8], text: &[u8], space: &mut [u8]) -> Outcome {
+    let [mut line, mut length] = [UNWRITTEN as usize; 2];
+    // SAFETY: the slices are lent for the call, the text only to be read; the figures are locals.
+    let number = unsafe {
+        exported::pairing_run(
+            rack.as_mut_ptr(),
+            rack.len(),
+            text.as_ptr(),
+            text.len(),
+            space.as_mut_ptr(),
+            space.len(),
+            &mut line,
+            &mut length,
+        )
+    };
+    Outcome {
+        number,
+        line,
+        length,
     }
 }

@@ -2,9 +2,11 @@
 //! repeatable and bounded by counts.
 //!
 //! `compare rack` tries making, the audit and the queries, `compare change`
-//! the changes. Each prints how many of each kind it tried. The first
-//! difference ends it: seed and details are printed, and the exit status says
-//! so.
+//! the changes, `compare run` the running of trace texts, and `compare program
+//! PATH` what the program for traces prints. Each prints how many of each kind
+//! it tried. The first difference ends it: seed and details are printed, and
+//! the exit status says so. `compare text FAMILY PLACE` prints the text of one
+//! case of `compare run`.
 
 mod asked;
 mod both;
@@ -12,8 +14,13 @@ mod cases;
 mod change_part;
 mod damage;
 mod fans;
+mod program_part;
 mod rack_part;
 mod racks;
+mod run_part;
+mod run_tally;
+mod runs;
+mod texts;
 
 use std::env;
 use std::process::ExitCode;
@@ -22,15 +29,20 @@ use std::process::ExitCode;
 pub type Verdict = Result<(), String>;
 
 fn main() -> ExitCode {
-    let part: fn() -> Verdict = match env::args().nth(1).as_deref() {
-        Some("rack") => rack_part::all,
-        Some("change") => change_part::all,
+    let arguments: Vec<String> = env::args().skip(1).collect();
+    let arguments: Vec<&str> = arguments.iter().map(String::as_str).collect();
+    let verdict = match arguments[..] {
+        ["rack"] => rack_part::all(),
+        ["change"] => change_part::all(),
+        ["run"] => run_part::all(),
+        ["program", path] => program_part::all(path),
+        ["text", family, place] => run_part::print_text(family, place),
         _ => {
-            eprintln!("usage: compare rack | compare change");
+            eprintln!("usage: compare rack | change | run | program PATH | text FAMILY PLACE");
             return ExitCode::FAILURE;
         }
     };
-    match part() {
+    match verdict {
         Ok(()) => ExitCode::SUCCESS,
         Err(why) => {
             println!("compare: a difference: {why}");

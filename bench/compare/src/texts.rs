@@ -1,0 +1,103 @@
+//! The trace texts that are run: each as long as a text may be.
+
+use crate::cases::Series;
+use crate::side::Change;
+
+/// The most words of a line.
+const MOST_WORDS: usize = 128;
+
+/// A text and how many changes it has.
+pub struct Text {
+    bytes: String,
+    pub changes: usize,
+}
+
+/// The texts that are measured, by their kind and the number of boards.
+pub const TEXTS: [(&str, usize); 6] = [
+    ("run", 16),
+    ("run", 64),
+    ("run", 128),
+    ("run", 256),
+    ("refused", 64),
+    ("words", 256),
+];
+
+impl Text {
+    /// The text of a kind: "run" has accepted changes with words of one digit,
+    /// as many as they must bring; "refused" has four refused changes after each
+    /// accepted one; "words" has accepted changes with 128 words of ten digits.
+    pub fn of(kind: &str, n: usize) -> Option<Text> {
+        let lines = match kind {
+            "run" => accepted,
+            "refused" => mostly_refused,
+            "words" => with_long_words,
+            _ => return None,
+        };
+        let mut text = Text {
+            bytes: format!("(rack (boards {n}))\n"),
+            changes: 0,
+        };
+        // More changes than there is room for would only take time to make.
+        let length = tuned::TEXT_LIMIT / (20 + 2 * (n / 2));
+        let series = Series::of_length(n, length);
+        let mut changes = series.changes.iter();
+        while changes
+            .next()
+            .is_some_and(|change| text.add(lines(&series, change)))
+        {}
+        Some(text)
+    }
+
+    pub fn bytes(&self) -> &[u8] {
+        self.bytes.as_bytes()
+    }
+
+    /// Adds lines; no if there was no room for one of them.
+    fn add(&mut self, lines: Vec<String>) -> bool {
+        for line in lines {
+            if self.bytes.len() + line.len() > tuned::TEXT_LIMIT {
+                return false;
+            }
+            self.bytes += &line;
+            self.changes += 1;
+        }
+        true
+    }
+}
+
+fn line(code: u32, a: u32, b: u32, words: impl Iterator<Item = u32>) -> String {
+    let name = if code == 1 { "add" } else { "drop" };
+    let words: String = words.map(|word| format!(" {word}")).collect();
+    format!("({name} ({a} {b}) (draws{words}))\n")
+}
+
+/// The words that a change must bring, one digit each.
+fn short<'a>(series: &'a Series, change: &Change) -> impl Iterator<Item = u32> + Clone + 'a {
+    series.words(change).iter().map(|word| word % 10)
+}
+
+fn accepted(series: &Series, change: &Change) -> Vec<String> {
+    let &Change { code, a, b, .. } = change;
+    vec![line(code, a, b, short(series, change))]
+}
+
+/// The change, then 10 or 11 as it is made again, 9, 8, and 12 as it would be
+/// taken back.
+fn mostly_refused(series: &Series, change: &Change) -> Vec<String> {
+    let &Change { code, a, b, .. } = change;
+    let words = short(series, change);
+    vec![
+        line(code, a, b, words.clone()),
+        line(code, b, a, words.clone()),
+        line(code, a, a, words.clone()),
+        line(code, a, series.n as u32, words),
+        line(3 - code, a, b, std::iter::empty()),
+    ]
+}
+
+fn with_long_words(series: &Series, change: &Change) -> Vec<String> {
+    let &Change { code, a, b, .. } = change;
+    let words = series.more_words(change, MOST_WORDS).iter();
+    let long = |word: &u32| 1_000_000_000 + word % 3_000_000_000;
+    vec![line(code, a, b, words.map(long))]
+}

@@ -1,0 +1,54 @@
+//! The runs whose outcome document 01 states: the worked example, P12 and P13.
+
+use super::lengths::exact;
+use super::Case;
+use reference::TEXT_LIMIT;
+
+const EXAMPLE: &str = "\
+(rack (boards 4))
+(add (0 1) (draws 0 0))
+(add (1 2) (draws 0 0))
+(add (2 3) (draws 0 0))
+(drop (0 1) (draws 0 0))
+(add (2 3) (draws 0 0))
+";
+
+const EXAMPLE_RECORD: &str = "\
+(rack (boards 4))
+(done (draws 1) (falls 0) (pairs 1))
+(done (draws 0) (falls 0) (pairs 1))
+(done (draws 1) (falls 0) (pairs 2))
+(done (draws 0) (falls 2) (pairs 1))
+(refused 10)
+(pair (2 3) (level 0))
+(end (pairs 1))
+";
+
+/// A run with the number, the line and, for the example, the record stated.
+pub struct Stated {
+    pub name: &'static str,
+    pub case: Case,
+    pub number: u32,
+    pub line: usize,
+    pub record: Option<&'static str>,
+}
+
+pub fn stated() -> Vec<Stated> {
+    let of = |name, text: Vec<u8>, number, line| Stated {
+        name,
+        case: Case::of(text),
+        number,
+        line,
+        record: None,
+    };
+    vec![
+        Stated {
+            record: Some(EXAMPLE_RECORD),
+            ..of("the worked example", EXAMPLE.into(), 0, 0)
+        },
+        of("P12, empty text", vec![], 4, 1),
+        of("P13, 16,384 bytes", exact(0, TEXT_LIMIT), 0, 0),
+        of("P13, 16,385 bytes", exact(0, TEXT_LIMIT + 1), 2, 0),
+        of("P13, 16,385 line feeds", vec![b'\n'; TEXT_LIMIT + 1], 2, 0),
+    ]
+}

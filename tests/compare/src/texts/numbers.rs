@@ -1,0 +1,117 @@
+//! Numbers 1 to 5: buffers of other lengths, board numbers that are none, and
+//! texts that meet two or more numbers at once, of which the first is the one.
+
+use super::lengths::exact;
+use super::trace::rack_line;
+use super::{Case, Family};
+use reference::{RACK_BYTES, RECORD_SPACE, TEXT_LIMIT};
+
+const RACKS: [usize; 9] = [RACK_BYTES, 0, 1, 264, 9_991, 9_993, 10_152, 19_984, 65_536];
+const SPACES: [usize; 9] = [
+    RECORD_SPACE,
+    0,
+    1,
+    16_384,
+    65_535,
+    65_537,
+    65_600,
+    98_304,
+    131_072,
+];
+
+/// Board numbers, in the first line of a text.
+const BOARDS: [u32; 12] = [
+    0,
+    1,
+    2,
+    255,
+    256,
+    257,
+    258,
+    512,
+    65_536,
+    65_537,
+    1 << 31,
+    u32::MAX,
+];
+
+pub fn families() -> Vec<Family> {
+    let grid = grid();
+    let boards = boards();
+    let all = (RACKS.len() * SPACES.len() * grid.len()) as u64;
+    let at_once = Family::new("numbers at once", all, &[0, 1, 2, 3, 4, 5], move |k| {
+        let k = k as usize;
+        let (racks, spaces) = (RACKS.len(), SPACES.len());
+        Case {
+            rack: RACKS[k % racks],
+            space: SPACES[k / racks % spaces],
+            ..Case::of(&grid[k / racks / spaces][..])
+        }
+    });
+    let named = boards.len() as u64;
+    vec![
+        at_once,
+        Family::new("other board numbers", named, &[0, 4, 5], move |k| {
+            Case::of(&boards[k as usize][..])
+        }),
+        Family::new("every board number to 300", 301, &[0, 5], |n| {
+            Case::of(rack_line(n as u32) + "(add (0 1) (draws 7))\n(add (255 0) (draws))\n")
+        }),
+        Family::new("longer record spaces", 200, &[0], |k| Case {
+            space: RECORD_SPACE + 1 + k as usize * 37,
+            ..Case::of(exact(k, 16 * (k as usize + 40)))
+        }),
+    ]
+}
+
+/// Texts that fit, are too long, don't fit, or name no board number, and two of
+/// these at once.
+fn grid() -> Vec<Vec<u8>> {
+    let fits = exact(1, 300);
+    let too_long = exact(2, TEXT_LIMIT + 1);
+    let full = exact(3, TEXT_LIMIT);
+    let noise: Vec<u8> = (0..TEXT_LIMIT + 1).map(|at| (at * at) as u8).collect();
+    let long_of_none = named(0, &too_long);
+    let mut bad = fits.clone();
+    bad.push(b'(');
+    vec![
+        named(0, &fits),
+        named(257, &bad),
+        named(u32::MAX, &fits),
+        Vec::new(),
+        fits,
+        too_long,
+        full,
+        noise,
+        long_of_none,
+        bad,
+        vec![b'\n'; TEXT_LIMIT],
+        vec![b'\n'; TEXT_LIMIT + 1],
+    ]
+}
+
+/// A text with another first line.
+fn named(n: u32, text: &[u8]) -> Vec<u8> {
+    let mut lines = text.splitn(2, |&byte| byte == b'\n');
+    let rest = lines.nth(1).unwrap_or(b"");
+    [rack_line(n).as_bytes(), rest].concat()
+}
+
+/// Board numbers alone, before changes, and before a line that doesn't fit.
+fn boards() -> Vec<Vec<u8>> {
+    let mut texts = Vec::new();
+    for n in BOARDS {
+        let first = rack_line(n);
+        let words = " 4294967295".repeat(128);
+        for rest in [
+            "",
+            "(add (0 1) (draws 0 0))\n",
+            "(add (0 1) (draws 0 0))\n(",
+            &format!("(add (0 1) (draws{words}))\n"),
+            &format!("(add (0 1) (draws{words} 1))\n"),
+        ] {
+            texts.push([first.as_bytes(), rest.as_bytes()].concat());
+        }
+    }
+    texts
+}
