@@ -5,7 +5,7 @@ use mathlib.Core.Bool.{Bool, true, false}
 use mathlib.Core.List.{List, _++_}
 use Prim.Native.Nat.{ℕ, _+_, _*_, _≤_}
 use native.Mathlib.Omega.{arith}
-use lib.Dec.{T, leb, leb→le}
+use lib.Dec.{leb, leb→le}
 use lib.ListN.{length, drop, length-append}
 use lib.Seq.{drop-at}
 use Rattle.model.specs.State.{State, base, empty}
@@ -13,8 +13,7 @@ use Rattle.model.specs.Bytes.{most, read, write}
 use Rattle.model.specs.Sound.{sizeGood}
 use Rattle.model.specs.Calls.{sized, makeNumber, made}
 use Rattle.model.specs.Text.{texts}
-use Rattle.model.specs.Change.{Change}
-use Rattle.model.specs.Trace.{Holds, traceText, rackLine, changeLine}
+use Rattle.model.specs.Trace.{traceText, rackLine, changeLine}
 use Rattle.model.specs.Record.{after, changesText, recordText}
 use Rattle.model.specs.Run.{Ran, ran, bad-size, RunAnswer, turnedBack, longest, spaceLength}
 use Rattle.model.proofs.Tests.{true-T, and-left, and-right}

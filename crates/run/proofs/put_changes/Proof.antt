@@ -1,6 +1,6 @@
 -- `run::put_changes` meets its contract. The invariant is `Going` of `Turns`. Assumes nothing.
 use mathlib.Core.Path.{_≡_, refl, sym, _∙_, subst}
-use Prim.Native.Nat.{ℕ, _+_, _-_, _≤_}
+use Prim.Native.Nat.{_+_, _-_, _≤_}
 use native.Mathlib.Omega.{arith}
 use lib.ListN.{length, length-take}
 use Rattle.text.proofs.Over.{back, put-kept, length-part}

@@ -1,9 +1,8 @@
 -- `run::put_pairs` meets its contract. The invariant: the lines of the pairs whose lower vertex is below v are written. Assumes nothing.
 use mathlib.Core.Path.{_≡_, sym, ap, _∙_}
-use Prim.Native.Nat.{ℕ, _*_, _-_, _≤_, _<_}
+use Prim.Native.Nat.{_*_, _-_, _≤_, _<_}
 use native.Mathlib.Omega.{arith}
 use native.Mathlib.Numerals.{add-one}
-use lib.ListN.{length}
 use Rattle.model.specs.Bytes.{read}
 use Rattle.model.specs.Record.{pairLines}
 use Rattle.text.specs.Writing.{Put}

@@ -8,7 +8,6 @@ use Rattle.model.specs.Calls.{sized}
 use Rattle.model.specs.Run.{rack-length, text-long, space-short, bad-line}
 use Rattle.engine.proofs.Numbers.{off, on}
 use Rattle.trace.specs.Check.{Checks}
-use Rattle.run.specs.Runs.{Taken}
 use Rattle.run.proofs.Whole.{ran-as, answer-of}
 use borrow.Author.Needs.{needs}
 use Rattle.run.proofs.run.Statement.{statement}

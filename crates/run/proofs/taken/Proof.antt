@@ -1,6 +1,5 @@
 -- `run::taken` meets its contract. Assumes nothing.
-use mathlib.Core.Path.{refl, sym, ap, _∙_}
-use native.Mathlib.Omega.{arith}
+use mathlib.Core.Path.{refl, sym, _∙_}
 use Rattle.run.proofs.Whole.{made-none, made-new, ran-as, answer-of, five, recorded}
 use borrow.Author.Needs.{needs}
 use Rattle.run.proofs.taken.Statement.{statement}
