@@ -4,6 +4,7 @@ ghost use mathlib.Core.Path.{_≡_};
 ghost use Rattle.model.specs.Counting.{bit};
 ghost use Rattle.model.specs.State.{base};
 ghost use Rattle.model.specs.Calls.{makeNumber, made, changeBytes, audit as auditOf, levelQuery, mateQuery, linkedQuery};
+ghost use Rattle.model.specs.Run.{Ran};
 ghost use Rattle.changes.specs.Sounded.{brought};
 
 // Making a rack of n boards.
@@ -95,5 +96,22 @@ pub extern "C" fn pairing_linked(rack: &[u8], v: u32, w: u32, linked: &mut u32) 
     let answer = engine::linked(rack, v, w);
     let found = answer.value;
     *linked = found;
+    answer.number
+}
+
+// Running a trace text to its record, which stands at the start of `space`; line is the first that doesn't fit, for number 4.
+#[no_mangle]
+pub extern "C" fn pairing_run(
+    rack: &mut [u8],
+    text: &[u8],
+    space: &mut [u8],
+    line: &mut usize,
+    length: &mut usize,
+) -> u32
+    ensures { λ r. ⌜ Ran base (now (rack .entry)) (now (text .entry)) (now (space .entry)) (record { number = r; line = now (line .exit); length = now (length .exit) }) (now (rack .exit)) (now (space .exit)) ⌝ }
+{
+    let answer = run::run(rack, text, space);
+    *line = answer.line;
+    *length = answer.length;
     answer.number
 }
