@@ -1,14 +1,15 @@
 -- Document 01, "Trace and record" and "Turned back": running a trace text to a record. "a trace 1 to 5". Assumes nothing.
 use mathlib.Core.Path.{_≡_}
 use mathlib.Core.Bool.{true, false}
-use mathlib.Core.List.{List}
+use mathlib.Core.List.{List, _++_}
 use Prim.Native.Nat.{ℕ, _≤_, _<_}
-use lib.ListN.{length}
+use lib.Dec.{eqb}
+use lib.ListN.{length, take}
 use Rattle.model.specs.State.{Rules, empty}
 use Rattle.model.specs.Bytes.{write}
 use Rattle.model.specs.Sound.{sizeGood}
 use Rattle.model.specs.Calls.{sized}
-use Rattle.model.specs.Text.{over}
+use Rattle.model.specs.Text.{bytes, decimal, over}
 use Rattle.model.specs.Trace.{Trace, Holds, linesOf, FirstBad}
 use Rattle.model.specs.Record.{after, recordText}
 
@@ -42,3 +43,12 @@ pub data Ran (R : Rules) (rack text space : List ℕ) : RunAnswer → List ℕ �
   ran : {t : Trace} → sized rack ≡ true → length text ≤ longest → spaceLength ≤ length space → Holds text t → sizeGood (t .n) ≡ true
       → Ran R rack text space (record { number = 0; line = 0; length = length (recordText R t) })
       (write (after R (empty (t .n)) (t .changes))) (over 0 (recordText R t) space)
+
+-- `(bad K L)`, ended by a line feed
+unfoldable pub badLine : ℕ → ℕ → List ℕ
+badLine number line = bytes "(bad " ++ (decimal number ++ (bytes " " ++ (decimal line ++ bytes ")\n")))
+
+-- "The program [..] prints the record, or `(bad K L)`: K the number, L the first line that doesn't fit for number 4, otherwise 0.": by a
+-- run's answer, and the record space after it
+unfoldable pub output : RunAnswer → List ℕ → List ℕ
+output a space = elim (eqb (a .number) 0) [ true ↦ take (a .length) space | false ↦ badLine (a .number) (a .line) ]

@@ -9,8 +9,9 @@ use Rattle.model.specs.Text.{bytes, decimal, largest}
 use Rattle.model.specs.State.{State, pairs}
 use Rattle.model.specs.Change.{Answer}
 use Rattle.model.specs.Record.{answerLine, pairLine, endLine}
+use Rattle.model.specs.Run.{badLine}
 use Rattle.text.specs.Writing.{Put}
-use Rattle.text.proofs.Lengths.{one-most, three-most}
+use Rattle.text.proofs.Lengths.{figure-most, one-most, three-most}
 use Rattle.text.proofs.Answers.{done-line, refused-line}
 use Rattle.record.specs.Line.{fieldText, oneText, threeText, pairText, endText}
 
@@ -48,6 +49,15 @@ pub three-room : (p : List ℕ) (x : ℕ) (q : List ℕ) (y : ℕ) (r : List ℕ
     → length (threeText p x q y r z e) ≤ length p + length q + length r + length e + 30
 unfolding threeText
 three-room p x q y r z e h k l = three-most p x q y r z e h k l
+
+-- The line of a run turned back is a field and a line of one figure.
+
+pub bad-parts : (k l : ℕ) → fieldText (bytes "(bad ") k ++ oneText (bytes " ") l (bytes ")\n") ≡ badLine k l
+unfolding fieldText oneText badLine
+bad-parts k l = simp append-assoc
+
+pub field-room : (p : List ℕ) (x : ℕ) → x ≤ largest → length (fieldText p x) ≤ length p + 10
+field-room p x h = omega (arith, field-length p x, figure-most x h)
 
 -- A line that was written, said of equal figures.
 

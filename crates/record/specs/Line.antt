@@ -4,7 +4,8 @@ use Prim.Native.Nat.{ℕ}
 use Rattle.model.specs.Text.{bytes, decimal}
 use Rattle.model.specs.Change.{Answer}
 
--- how many bytes a printer is lent at least: no first line, answer's line, pair's line and end line of figures of 32 bits is longer
+-- how many bytes a printer is lent at least: no first line, answer's line, pair's line, end line and line of a
+-- run turned back, of figures of 32 bits, is longer
 abbrev pub rackRoom : ℕ
 rackRoom = 27
 
@@ -16,6 +17,9 @@ pairRoom = 50
 
 abbrev pub endRoom : ℕ
 endRoom = 25
+
+abbrev pub badRoom : ℕ
+badRoom = 28
 
 -- a fixed text, and a number straight after it
 unfoldable pub fieldText : List ℕ → ℕ → List ℕ

@@ -4,8 +4,9 @@ ghost use Prim.Native.Nat.{_≤_};
 ghost use lib.ListN.{length};
 ghost use Rattle.model.specs.Trace.{rackLine};
 ghost use Rattle.model.specs.Record.{answerLine};
+ghost use Rattle.model.specs.Run.{badLine};
 ghost use Rattle.text.specs.Writing.{Put};
-ghost use Rattle.record.specs.Line.{rackRoom, answerRoom, pairRoom, endRoom, fieldText, oneText, threeText, answered, pairText, endText};
+ghost use Rattle.record.specs.Line.{rackRoom, answerRoom, pairRoom, endRoom, badRoom, fieldText, oneText, threeText, answered, pairText, endText};
 
 // Writes a fixed text, and a number straight after it.
 fn put_field(out: &mut [u8], p: &[u8], x: u32) -> usize
@@ -91,4 +92,14 @@ pub fn put_end(out: &mut [u8], pairs: u32) -> usize
     ensures { λ r. ⌜ Put (endText pairs) (now (out .entry)) (now (out .exit)) r ⌝ }
 {
     put_one(out, b"(end (pairs ", pairs, b"))\n")
+}
+
+// Writes the line of a run that was turned back.
+pub fn put_bad(out: &mut [u8], number: u32, line: u32) -> usize
+    requires { ⌜ badRoom ≤ length (now out) ⌝ }
+    ensures { λ r. ⌜ Put (badLine number line) (now (out .entry)) (now (out .exit)) r ⌝ }
+{
+    let at = put_field(out, b"(bad ", number);
+    let k = put_one(&mut out[at..], b" ", line, b")\n");
+    at + k
 }

@@ -2,3 +2,4 @@
 pub mod Pairs
 pub mod Turns
 pub mod Whole
+pub mod Once

@@ -28,7 +28,7 @@ use Rattle.run.specs.Runs.{Ready, Played, Taken, Written}
 use Rattle.run.proofs.Turns.{sounded-read}
 
 -- "n is 1 to 256"
-size-range : (n : ℕ) → sizeGood n ≡ true → (1 ≤ n) × (n ≤ most)
+pub size-range : (n : ℕ) → sizeGood n ≡ true → (1 ≤ n) × (n ≤ most)
 unfolding sizeGood
 size-range n e = (leb→le 1 n (and-left (leb 1 n) (leb n most) (true-T e)), leb→le n most (and-right (leb 1 n) (leb n most) (true-T e)))
 

@@ -4,7 +4,7 @@ use mathlib.Core.Bool.{true, false}
 use mathlib.Core.List.{List, [], _++_}
 use Prim.Native.Nat.{ℕ, _+_, _*_, _≤_}
 use lib.Dec.{ltb}
-use lib.ListN.{length, drop}
+use lib.ListN.{length, take, drop}
 use Rattle.model.specs.State.{State, base, empty}
 use Rattle.model.specs.Bytes.{read, write}
 use Rattle.model.specs.Lists.{All}
@@ -12,7 +12,7 @@ use Rattle.model.specs.Text.{texts}
 use Rattle.model.specs.Change.{Change}
 use Rattle.model.specs.Trace.{Holds, LineChange, changeLine}
 use Rattle.model.specs.Record.{pairLine, pairLines, endLine, after, changesText, recordText}
-use Rattle.model.specs.Run.{longest, spaceLength, RunAnswer as AnswerOf}
+use Rattle.model.specs.Run.{longest, spaceLength, RunAnswer as AnswerOf, Ran, output}
 use Rattle.text.specs.Writing.{Put}
 use Rattle.run.specs.declared.RunAnswer.{RunAnswer}
 
@@ -61,3 +61,12 @@ pub record Written (text : List ℕ) (n : ℕ) (last old new : List ℕ) (r : �
 -- the answer in the code's words
 abbrev pub told : RunAnswer → AnswerOf
 told r = record { number = r .number; line = r .line; length = r .length }
+
+-- the first r bytes of the space are what the program prints of a run
+pub record Shown (rack text old new : List ℕ) (r : ℕ) : Type 0 where
+  pub answer : AnswerOf
+  pub last : List ℕ
+  pub space : List ℕ
+  pub ran : Ran base rack text old answer last space
+  pub within : r ≤ length new
+  pub is : take r new ≡ output answer space

@@ -12,11 +12,11 @@ ghost use Rattle.model.specs.Sound.{sizeGood};
 ghost use Rattle.model.specs.Change.{change as changeOf};
 ghost use Rattle.model.specs.Calls.{sized as sizedOf};
 ghost use Rattle.model.specs.Record.{answerLine, pairLines};
-ghost use Rattle.model.specs.Run.{Ran};
+ghost use Rattle.model.specs.Run.{Ran, spaceLength};
 ghost use Rattle.text.specs.Writing.{Put};
 ghost use Rattle.record.specs.Line.{answerRoom, pairRoom};
 ghost use Rattle.changes.specs.Sounded.{Sounded, brought};
-ghost use Rattle.run.specs.Runs.{endingRoom, endingText, pairPart, Ready, Played, Written, Taken, told};
+ghost use Rattle.run.specs.Runs.{endingRoom, endingText, pairPart, Ready, Played, Written, Taken, told, Shown};
 
 // "The answer is 0 and the record's length", or the number of a run that was turned back, with its line if that is 4.
 pub struct RunAnswer {
@@ -161,4 +161,16 @@ fn taken(rack: &mut [u8], text: &[u8], n: u32, space: &mut [u8]) -> RunAnswer
         line: 0,
         length,
     }
+}
+
+// "prints the record, or `(bad K L)`": the text to print stands at the start of the space, and its length is the answer.
+pub fn show(rack: &mut [u8], text: &[u8], space: &mut [u8]) -> usize
+    requires { ⌜ spaceLength ≤ length (now space) ⌝ }
+    ensures { λ r. ⌜ Shown (now (rack .entry)) (now (text .entry)) (now (space .entry)) (now (space .exit)) r ⌝ }
+{
+    let answer = run(rack, text, space);
+    if answer.number == 0 {
+        return answer.length;
+    }
+    record::put_bad(space, answer.number, answer.line as u32)
 }

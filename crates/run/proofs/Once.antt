@@ -1,0 +1,140 @@
+-- A run has one outcome: whatever the bytes lent, one answer and one list of bytes for rack and record space. And what is printed of it.
+-- Assumes nothing.
+use mathlib.Core.Path.{_≡_, refl, sym, ap, _∙_, subst}
+use mathlib.Core.Logic.{_≢_, _⊎_, inl, inr}
+use mathlib.Core.Bool.{Bool, true, false}
+use mathlib.Core.List.{List}
+use Prim.Native.Nat.{ℕ, suc, _+_, _≤_}
+use native.Mathlib.Omega.{arith}
+use lib.Dec.{ltb}
+use lib.ListN.{length, take, length-take}
+use lib.Seq.{take-at}
+use Rattle.model.specs.State.{Rules, base, empty}
+use Rattle.model.specs.Bytes.{write}
+use Rattle.model.specs.Sound.{sizeGood}
+use Rattle.model.specs.Calls.{sized}
+use Rattle.model.specs.Text.{over}
+use Rattle.model.specs.Trace.{Trace, Holds, linesOf, FirstBad}
+use Rattle.model.specs.Record.{after, recordText}
+use Rattle.model.specs.Run.{Ran, rack-length, text-long, space-short, bad-line, bad-size, ran, RunAnswer, turnedBack, longest, spaceLength, badLine, output}
+use Rattle.model.proofs.Tests.{eqb-yes, eqb-no, leb-yes, leb-no}
+use Rattle.text.specs.Writing.{Put}
+use Rattle.trace.proofs.Whole.{trace-same, trace-fits, first-bad-same, first-bad-within}
+use Rattle.trace.proofs.Decide.{fits-or-bad}
+use Rattle.trace.proofs.RecordFits.{record-fits-base}
+use Rattle.run.proofs.Whole.{size-range}
+
+-- what a run answers, and the bytes of rack and space after it
+pub record Outcome : Type 0 where
+  pub answer : RunAnswer
+  pub rack : List ℕ
+  pub space : List ℕ
+
+module _ (R : Rules) (rack text space : List ℕ) where
+  back : ℕ → ℕ → Outcome
+  back k line = record { answer = turnedBack k line; rack = rack; space = space }
+
+  recorded : Trace → Outcome
+  recorded t = record {
+    answer = record { number = 0; line = 0; length = length (recordText R t) };
+    rack = write (after R (empty (t .n)) (t .changes));
+    space = over 0 (recordText R t) space;
+  }
+
+  -- by the board number
+  abbrev sizes : Trace → Bool → Outcome
+  sizes t true = recorded t
+  sizes t false = back 5 0
+
+  -- by the text: the record of its trace, or 5, or 4 with its first line that doesn't fit
+  read : ((t : Trace) × Holds text t) ⊎ ((k : ℕ) × FirstBad (linesOf text) k) → Outcome
+  read (inl (t, h)) = sizes t (sizeGood (t .n))
+  read (inr (k, h)) = back 4 k
+
+  -- by the three lengths
+  chosen : Bool → Bool → Bool → Outcome → Outcome
+  chosen false long short o = back 1 0
+  chosen true true short o = back 2 0
+  chosen true false true o = back 3 0
+  chosen true false false o = o
+
+  -- first fit first
+  abbrev outcome : Outcome
+  outcome = chosen (sized rack) (ltb longest (length text)) (ltb (length space) spaceLength) (read (fits-or-bad text))
+
+  read-holds : (d : ((t : Trace) × Holds text t) ⊎ ((k : ℕ) × FirstBad (linesOf text) k)) (t : Trace) → Holds text t
+      → read d ≡ sizes t (sizeGood (t .n))
+  unfolding read
+  read-holds (inl (u, g)) t h = ap (λ (x : Trace). sizes x (sizeGood (x .n))) (trace-same text u t g h)
+  read-holds (inr (k, b)) t h = absurd (trace-fits text t k h b)
+
+  read-bad : (d : ((t : Trace) × Holds text t) ⊎ ((k : ℕ) × FirstBad (linesOf text) k)) (k : ℕ) → FirstBad (linesOf text) k → read d ≡ back 4 k
+  unfolding read
+  read-bad (inl (t, h)) k b = absurd (trace-fits text t k h b)
+  read-bad (inr (j, a)) k b = ap (back 4) (first-bad-same (linesOf text) j k a b)
+
+  -- the lengths are those that a run takes
+  taken : sized rack ≡ true → length text ≤ longest → spaceLength ≤ length space → outcome ≡ read (fits-or-bad text)
+  unfolding chosen
+  taken z s w =
+      let p : ltb longest (length text) ≡ false = leb-no (suc longest) (length text) (omega (arith, s)) in
+      let q : ltb (length space) spaceLength ≡ false = leb-no (suc (length space)) spaceLength (omega (arith, w)) in
+      λ i. chosen (z i) (p i) (q i) (read (fits-or-bad text))
+
+  is : {a : RunAnswer} {x y : List ℕ} → Ran R rack text space a x y → outcome ≡ record { answer = a; rack = x; space = y }
+  unfolding chosen back recorded
+  is (rack-length z) = λ i. chosen (z i) (ltb longest (length text)) (ltb (length space) spaceLength) (read (fits-or-bad text))
+  is (text-long z s) =
+      let p : ltb longest (length text) ≡ true = leb-yes (suc longest) (length text) (omega (arith, s)) in
+      λ i. chosen (z i) (p i) (ltb (length space) spaceLength) (read (fits-or-bad text))
+  is (space-short z s w) =
+      let p : ltb longest (length text) ≡ false = leb-no (suc longest) (length text) (omega (arith, s)) in
+      let q : ltb (length space) spaceLength ≡ true = leb-yes (suc (length space)) spaceLength (omega (arith, w)) in
+      λ i. chosen (z i) (p i) (q i) (read (fits-or-bad text))
+  is (bad-line {line} z s w b) = taken z s w ∙ read-bad (fits-or-bad text) line b
+  is (bad-size {t} z s w h e) = taken z s w ∙ read-holds (fits-or-bad text) t h ∙ ap (sizes t) e
+  is (ran {t} z s w h e) = taken z s w ∙ read-holds (fits-or-bad text) t h ∙ ap (sizes t) e
+
+  -- two runs of the same bytes answer the same and leave the same
+  pub ran-once : {a b : RunAnswer} {x y u v : List ℕ} → Ran R rack text space a x y → Ran R rack text space b u v → (a ≡ b) × (x ≡ u) × (y ≡ v)
+  ran-once g h =
+      let e = sym (is g) ∙ is h in
+      (ap (λ (o : Outcome). o .answer) e, ap (λ (o : Outcome). o .rack) e, ap (λ (o : Outcome). o .space) e)
+
+  -- the line of an answer fits 32 bits
+  pub line-few : {a : RunAnswer} {x y : List ℕ} → Ran R rack text space a x y → a .line ≤ longest + 1
+  line-few (rack-length z) = omega arith
+  line-few (text-long z s) = omega arith
+  line-few (space-short z s w) = omega arith
+  line-few (bad-line {line} z s w b) = omega (arith, s, first-bad-within text line b)
+  line-few (bad-size z s w h e) = omega arith
+  line-few (ran z s w h e) = omega arith
+
+-- the record that an answer tells of fits its space
+pub length-few : {rack text space : List ℕ} {a : RunAnswer} {x y : List ℕ} → Ran base rack text space a x y → a .length ≤ spaceLength
+length-few (rack-length z) = omega arith
+length-few (text-long z s) = omega arith
+length-few (space-short z s w) = omega arith
+length-few (bad-line z s w b) = omega arith
+length-few (bad-size z s w h e) = omega arith
+length-few (ran {t} z s w h e) =
+    let r = size-range (t .n) e in
+    record-fits-base t (r .0) (r .1) (subst (λ (l : List ℕ). length l ≤ longest) (h .printed) s)
+
+-- What is printed.
+
+pub output-ran : (a : RunAnswer) (space : List ℕ) → a .number ≡ 0 → output a space ≡ take (a .length) space
+unfolding output
+output-ran a space e = rw (eqb-yes (a .number) 0 e, output) refl
+
+pub output-back : (a : RunAnswer) (space : List ℕ) → a .number ≢ 0 → output a space ≡ badLine (a .number) (a .line)
+unfolding output
+output-back a space e = rw (eqb-no (a .number) 0 e, output) refl
+
+-- what was written at the start is what stands there
+pub put-front : {p old new : List ℕ} {r : ℕ} → Put p old new r → take r new ≡ p
+unfolding over
+put-front {p} {old} {new} {r} h = ap (take r) (h .wrote) ∙ take-at p _ r (sym (h .count))
+
+pub put-within : {p old new : List ℕ} {r : ℕ} → Put p old new r → r ≤ length new
+put-within {p} {old} {new} {r} h = omega (arith, h .count, ap length (put-front h), length-take r new)
