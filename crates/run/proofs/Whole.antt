@@ -6,25 +6,27 @@ use mathlib.Core.List.{List, _++_}
 use Prim.Native.Nat.{ℕ, _+_, _*_, _≤_}
 use native.Mathlib.Omega.{arith}
 use lib.Dec.{leb, leb→le}
-use lib.ListN.{length, drop, length-append}
-use lib.Seq.{drop-at}
+use lib.ListN.{length, length-append}
 use Rattle.model.specs.State.{State, base, empty}
 use Rattle.model.specs.Bytes.{most, read, write}
 use Rattle.model.specs.Sound.{sizeGood}
 use Rattle.model.specs.Calls.{sized, makeNumber, made}
-use Rattle.model.specs.Text.{texts}
-use Rattle.model.specs.Trace.{traceText, rackLine, changeLine}
+use Rattle.model.specs.Valid.{Valid}
+use Rattle.model.specs.Change.{Change}
+use Rattle.model.specs.Trace.{Holds, rackLine}
 use Rattle.model.specs.Record.{after, changesText, recordText}
 use Rattle.model.specs.Run.{Ran, ran, bad-size, RunAnswer, turnedBack, longest, spaceLength}
 use Rattle.model.proofs.Tests.{true-T, and-left, and-right}
 use Rattle.theory.proofs.Matching.{base-pos, empty-valid}
 use Rattle.text.specs.Writing.{Put}
 use Rattle.text.proofs.Over.{part, back, put-as, put-then, put-kept, length-part}
-use Rattle.trace.proofs.Bound.{space-enough}
-use Rattle.trace.proofs.RecordFits.{record-fits-base}
+use Rattle.trace.proofs.Bound.{space-enough, changes-most}
+use Rattle.trace.proofs.RecordFits.{bounded}
 use Rattle.engine.proofs.Numbers.{make-five, make-new}
 use Rattle.changes.specs.Sounded.{Sounded}
-use Rattle.run.specs.Runs.{Ready, Played, Taken, Written}
+use Rattle.trace.specs.Check.{Kept}
+use Rattle.trace.proofs.Keeping.{kept-same}
+use Rattle.run.specs.Runs.{Ready, Played, Recordable, Written, Took}
 use Rattle.run.proofs.Turns.{sounded-read}
 
 -- "n is 1 to 256"
@@ -36,53 +38,57 @@ size-range n e = (leb→le 1 n (and-left (leb 1 n) (leb n most) (true-T e)), leb
 pub fresh : (bs : List ℕ) (n : ℕ) → sizeGood n ≡ true → bs ≡ write (empty n) → Sounded bs × (read bs ≡ empty n)
 fresh bs n e w = let r = size-range n e in sounded-read bs (empty n) w (empty-valid base base-pos n (r .0) (r .1))
 
-module _ (text : List ℕ) (n : ℕ) (old w : List ℕ) (k : ℕ) (t : Taken text n (length old)) (p : Put (rackLine n) old w k) where
-  whole : text ≡ rackLine n ++ texts changeLine (t .changes)
-  unfolding traceText
-  whole = t .holds .printed
-
-  -- line 1, every change's answer and the ending have room
-  enough : length (rackLine n) + 64 * length (t .changes) + 50 * 256 + 25 ≤ spaceLength
-  enough = space-enough (record { n = n; changes = t .changes }) (subst (λ (l : List ℕ). length l ≤ longest) (t .holds .printed) (t .short))
-
-  -- after line 1 the changes stand
-  tail : drop k text ≡ texts changeLine (t .changes)
-  tail = ap (drop k) whole ∙ drop-at (rackLine n) (texts changeLine (t .changes)) k (sym (p .count))
-
+module _ (heads words : List ℕ) (c n : ℕ) (old w : List ℕ) (k : ℕ) (t : Recordable heads words c n (length old)) (p : Put (rackLine n) old w k) where
   pub first-within : k ≤ length old
-  first-within = omega (arith, enough, t .wide, p .count)
+  first-within = omega (arith, t .enough, p .count)
 
   pub first-kept : length w ≡ length old
   first-kept = put-kept p first-within
 
-  pub ready : Ready text k (length (part k w))
+  pub ready : Ready heads words c (length (part k w))
   ready = record {
     changes = t .changes;
-    fit = t .holds .changes-fit;
-    within = omega (arith, ap length whole, length-append (rackLine n) (texts changeLine (t .changes)), p .count);
-    stands = tail;
-    enough = omega (arith, enough, t .wide, p .count, length-part k w, first-kept);
+    kept = t .kept;
+    count = t .count;
+    enough = omega (arith, t .enough, p .count, length-part k w, first-kept);
   }
 
   -- line 1 and what was played after it are the record
-  pub written : {rack last new : List ℕ} {r : ℕ} → read rack ≡ empty n → Played text k rack last (part k w) new r → Written text n last old (back k w new) (k + r)
-  unfolding traceText recordText
+  pub written : {rack last new : List ℕ} {r : ℕ} → read rack ≡ empty n → Played heads words c rack last (part k w) new r
+      → Written heads words c n last old (back k w new) (k + r)
+  unfolding recordText
   written e g = record {
     changes = g .changes;
-    holds = record {
-      n-fits = t .holds .n-fits;
-      changes-fit = g .fit;
-      printed = whole ∙ ap (λ (l : List ℕ). rackLine n ++ l) (sym tail ∙ g .stands);
-    };
+    kept = g .kept;
+    count = g .count;
     leaves = g .leaves ∙ ap (λ (s : State). write (after base s (g .changes))) e;
     prints = put-as _ _ (ap (λ (s : State). rackLine n ++ changesText base s (g .changes)) e) (put-then p (g .prints) (omega (arith, first-within, p .count)));
   }
 
--- the record fits its space
-pub record-within : {text last old new : List ℕ} {n r : ℕ} → sizeGood n ≡ true → length text ≤ longest → (w : Written text n last old new r) → r ≤ spaceLength
-record-within {n = n} e short w =
+-- the record that was printed fits
+pub record-within : {heads words last old new : List ℕ} {c n r : ℕ} → sizeGood n ≡ true → Recordable heads words c n (length old)
+    → (w : Written heads words c n last old new r) → r ≤ length old
+unfolding recordText
+record-within {n = n} e t w =
     let s = size-range n e in
-    omega (arith, w .prints .count, record-fits-base (record { n = n; changes = w .changes }) (s .0) (s .1) (subst (λ (l : List ℕ). length l ≤ longest) (w .holds .printed) short))
+    omega (
+      arith,
+      t .enough,
+      w .count,
+      w .prints .count,
+      length-append (rackLine n) (changesText base (empty n) (w .changes)),
+      changes-most base (Valid base) bounded (empty n) (w .changes) (empty-valid base base-pos n (s .0) (s .1)),
+    )
+
+-- a text of at most 16,384 bytes that holds the changes kept leaves room for its record
+pub recordable : {heads words text : List ℕ} {c n room : ℕ} (cs : List Change) → Holds text (record { n = n; changes = cs }) → c ≡ length cs → Kept heads words cs
+    → length text ≤ longest → spaceLength ≤ room → Recordable heads words c n room
+recordable {n = n} cs h e k short wide = record {
+  changes = cs;
+  kept = k;
+  count = e;
+  enough = omega (arith, e, wide, space-enough (record { n = n; changes = cs }) (subst (λ (l : List ℕ). length l ≤ longest) (h .printed) short));
+}
 
 -- Making: n is one of the paper's board numbers, or it isn't.
 module _ (bs : List ℕ) (n : ℕ) (z : sized bs ≡ true) where
@@ -111,11 +117,16 @@ ran-as {rack} {text} {space} {a} {b} {x} {y} {u} {v} e f g h =
 pub answer-of : (a : RunAnswer) {k l m : ℕ} → a .number ≡ k → a .line ≡ l → a .length ≡ m → a ≡ record { number = k; line = l; length = m }
 answer-of a p q r = λ i. record { number = p i; line = q i; length = r i }
 
-pub five : {rack text space : List ℕ} {n : ℕ} → sized rack ≡ true → (t : Taken text n (length space)) → sizeGood n ≡ false → Ran base rack text space (turnedBack 5 0) rack space
-five z t e = bad-size z (t .short) (t .wide) (t .holds) e
-
-pub recorded : {rack text space last new : List ℕ} {n r : ℕ} → sized rack ≡ true → (t : Taken text n (length space)) → sizeGood n ≡ true → (w : Written text n last space new r)
-    → Ran base rack text space (record { number = 0; line = 0; length = r }) last new
-recorded z t e w =
-    ran-as (λ i. record { number = 0; line = 0; length = w .prints .count i }) (w .leaves) (w .prints .wrote)
-    (ran z (t .short) (t .wide) (w .holds) e)
+-- a text that fits the grammar: 5, or its record
+pub took : {heads words rack text space last new : List ℕ} {a : RunAnswer} {c n : ℕ} (cs : List Change) → sized rack ≡ true → length text ≤ longest → spaceLength ≤ length space
+    → Holds text (record { n = n; changes = cs }) → c ≡ length cs → Kept heads words cs → Took (sizeGood n) heads words c n rack space a last new
+    → Ran base rack text space a last new
+took {heads} {words} {rack} {text} {space} {last} {new} {a} {c} {n} cs z s w h e k = go (sizeGood n) refl
+  where
+    go : (b : Bool) → sizeGood n ≡ b → Took b heads words c n rack space a last new → Ran base rack text space a last new
+    go false f t = ran-as (t .0) (t .1) (t .2) (bad-size z s w h f)
+    go true f t =
+        let v = t .2 in
+        let same : v .changes ≡ cs = kept-same heads words (v .changes) cs (sym (v .count) ∙ e) (v .kept) k in
+        let holds = subst (λ (l : List Change). Holds text (record { n = n; changes = l })) (sym same) h in
+        ran-as (answer-of a (t .0) (t .1) (v .prints .count)) (v .leaves) (v .prints .wrote) (ran z s w holds f)

@@ -1,19 +1,18 @@
--- The parts of a run: which changes stand in the text, and what is printed of them. Assumes nothing.
+-- The parts of a run: which changes were read, and what is printed of them. Assumes nothing.
 use mathlib.Core.Path.{_≡_}
-use mathlib.Core.Bool.{true, false}
+use mathlib.Core.Bool.{Bool, true, false}
 use mathlib.Core.List.{List, [], _++_}
 use Prim.Native.Nat.{ℕ, _+_, _*_, _≤_}
 use lib.Dec.{ltb}
-use lib.ListN.{length, take, drop}
+use lib.ListN.{length, take}
 use Rattle.model.specs.State.{State, base, empty}
 use Rattle.model.specs.Bytes.{read, write}
-use Rattle.model.specs.Lists.{All}
-use Rattle.model.specs.Text.{texts}
 use Rattle.model.specs.Change.{Change}
-use Rattle.model.specs.Trace.{Holds, LineChange, changeLine}
+use Rattle.model.specs.Trace.{rackLine}
 use Rattle.model.specs.Record.{pairLine, pairLines, endLine, after, changesText, recordText}
-use Rattle.model.specs.Run.{longest, spaceLength, RunAnswer as AnswerOf, Ran, output}
+use Rattle.model.specs.Run.{turnedBack, RunAnswer as AnswerOf, Ran, output}
 use Rattle.text.specs.Writing.{Put}
+use Rattle.trace.specs.Check.{Kept}
 use Rattle.run.specs.declared.RunAnswer.{RunAnswer}
 
 -- the room that the lines after those of the changes need: 50 bytes for each vertex, and the end line
@@ -28,35 +27,40 @@ pairPart s v = elim (ltb v (s .mate v)) [ true ↦ pairLine s v | false ↦ [] ]
 unfoldable pub endingText : State → List ℕ
 endingText s = pairLines s ++ endLine s
 
--- changes stand from `from` to the end of the text, and there is room for their lines and the ending
-pub record Ready (text : List ℕ) (from room : ℕ) : Type 0 where
+-- as many changes are kept, and there is room for their lines and the ending
+pub record Ready (heads words : List ℕ) (n room : ℕ) : Type 0 where
   pub changes : List Change
-  pub fit : All LineChange changes
-  pub within : from ≤ length text
-  pub stands : drop from text ≡ texts changeLine changes
-  pub enough : 64 * length changes + endingRoom ≤ room
+  pub kept : Kept heads words changes
+  pub count : n ≡ length changes
+  pub enough : 64 * n + endingRoom ≤ room
 
 -- those changes were made on the rack, and their lines and the ending printed
-pub record Played (text : List ℕ) (from : ℕ) (rack last old new : List ℕ) (r : ℕ) : Type 0 where
+pub record Played (heads words : List ℕ) (n : ℕ) (rack last old new : List ℕ) (r : ℕ) : Type 0 where
   pub changes : List Change
-  pub fit : All LineChange changes
-  pub stands : drop from text ≡ texts changeLine changes
+  pub kept : Kept heads words changes
+  pub count : n ≡ length changes
   pub leaves : last ≡ write (after base (read rack) changes)
   pub prints : Put (changesText base (read rack) changes) old new r
 
--- the text fits the grammar and asks for n vertices; text and space are of the lengths that a run takes
-pub record Taken (text : List ℕ) (n room : ℕ) : Type 0 where
+-- as many changes are kept, and there is room for the record of a trace of n vertices with them
+pub record Recordable (heads words : List ℕ) (k n room : ℕ) : Type 0 where
   pub changes : List Change
-  pub holds : Holds text (record { n = n; changes = changes })
-  pub short : length text ≤ longest
-  pub wide : spaceLength ≤ room
+  pub kept : Kept heads words changes
+  pub count : k ≡ length changes
+  pub enough : length (rackLine n) + 64 * k + endingRoom ≤ room
 
--- the record of the text's trace was printed, and the rack is left as its changes leave it
-pub record Written (text : List ℕ) (n : ℕ) (last old new : List ℕ) (r : ℕ) : Type 0 where
+-- that record was printed, and the rack is left as its changes leave it
+pub record Written (heads words : List ℕ) (k n : ℕ) (last old new : List ℕ) (r : ℕ) : Type 0 where
   pub changes : List Change
-  pub holds : Holds text (record { n = n; changes = changes })
+  pub kept : Kept heads words changes
+  pub count : k ≡ length changes
   pub leaves : last ≡ write (after base (empty n) changes)
   pub prints : Put (recordText base (record { n = n; changes = changes })) old new r
+
+-- by whether n is one of the paper's board numbers: the record, or 5 with every byte as it was
+abbrev pub Took : Bool → List ℕ → List ℕ → ℕ → ℕ → List ℕ → List ℕ → AnswerOf → List ℕ → List ℕ → Type 0
+Took true heads words k n rack space a last new = (a .number ≡ 0) × (a .line ≡ 0) × Written heads words k n last space new (a .length)
+Took false heads words k n rack space a last new = (a ≡ turnedBack 5 0) × (last ≡ rack) × (new ≡ space)
 
 -- the answer in the code's words
 abbrev pub told : RunAnswer → AnswerOf

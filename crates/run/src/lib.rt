@@ -1,6 +1,5 @@
-// A trace text run to its record. The whole text is read before the rack is made; then each change is read again, made on the rack, and
+// A trace text run to its record. The whole text is read before the rack is made; then each change that was read is made on the rack, and
 // answered by a line straight after the one before it. The rack is made here and stays sound, so no change is audited.
-use lines::ChangeRead;
 use trace::Checked;
 ghost use mathlib.Core.Path.{_≡_};
 ghost use mathlib.Core.Bool.{true};
@@ -16,7 +15,7 @@ ghost use Rattle.model.specs.Run.{Ran, spaceLength};
 ghost use Rattle.text.specs.Writing.{Put};
 ghost use Rattle.record.specs.Line.{answerRoom, pairRoom};
 ghost use Rattle.changes.specs.Sounded.{Sounded, brought};
-ghost use Rattle.run.specs.Runs.{endingRoom, endingText, pairPart, Ready, Played, Written, Taken, told, Shown};
+ghost use Rattle.run.specs.Runs.{endingRoom, endingText, pairPart, Ready, Played, Recordable, Written, Took, told, Shown};
 
 // "The answer is 0 and the record's length", or the number of a run that was turned back, with its line if that is 4.
 pub struct RunAnswer {
@@ -82,38 +81,58 @@ fn put_change(rack: &mut [u8], code: u32, a: u32, b: u32, words: &[u32], out: &m
     record::put_answer(out, x.number, x.draws, x.falls, x.pairs)
 }
 
-// "one line for each change, then the pairs by rising lower board, then the end line": the changes that stand from `from` on are made, and
-// "each line is put straight after the one before it": the rest of the record space is lent on from the present length.
-fn put_changes(rack: &mut [u8], text: &[u8], from: usize, out: &mut [u8]) -> usize
+// "one line for each change, then the pairs by rising lower board, then the end line": the changes that are kept are made, and "each line is
+// put straight after the one before it": the rest of the record space is lent on from the present length.
+fn put_changes(
+    rack: &mut [u8],
+    heads: &[u32],
+    words: &[u32],
+    changes: usize,
+    out: &mut [u8],
+) -> usize
     requires { ⌜ Sounded (now rack) ⌝ }
-    requires { ⌜ Ready (now text) from (length (now out)) ⌝ }
-    ensures { λ r. ⌜ Played (now (text .entry)) from (now (rack .entry)) (now (rack .exit)) (now (out .entry)) (now (out .exit)) r ⌝ }
+    requires { ⌜ Ready (now heads) (now words) changes (length (now out)) ⌝ }
+    ensures { λ r. ⌜ Played (now (heads .entry)) (now (words .entry)) changes (now (rack .entry)) (now (rack .exit)) (now (out .entry)) (now (out .exit)) r ⌝ }
 {
-    let mut words = [0u32; 128];
-    let mut i = from;
+    let mut k = 0;
+    let mut w = 0;
     let mut at = 0;
-    while i < text.len() {
-        let ChangeRead::Line(code, a, b, count, next) = lines::change_at(text, i, &mut words) else {
-            return at;
-        };
-        let k = put_change(rack, code, a, b, &words[..count], &mut out[at..]);
-        at += k;
-        i = next;
+    while k < changes {
+        let head = trace::head_at(heads, k);
+        let end = w + head.count as usize;
+        let m = put_change(
+            rack,
+            head.code,
+            head.a,
+            head.b,
+            &words[w..end],
+            &mut out[at..],
+        );
+        at += m;
+        w = end;
+        k += 1;
     }
-    let k = put_ending(rack, &mut out[at..]);
-    at + k
+    let m = put_ending(rack, &mut out[at..]);
+    at + m
 }
 
 // "The record repeats line 1, has one line for each change, then the pairs by rising lower board, then the end line": of n vertices, on the
 // rack just made.
-fn put_record(rack: &mut [u8], text: &[u8], n: u32, space: &mut [u8]) -> usize
-    requires { ⌜ Taken (now text) n (length (now space)) ⌝ }
+fn put_record(
+    rack: &mut [u8],
+    n: u32,
+    heads: &[u32],
+    words: &[u32],
+    changes: usize,
+    space: &mut [u8],
+) -> usize
     requires { ⌜ (sizeGood n ≡ true) × (now rack ≡ write (empty n)) ⌝ }
-    ensures { λ r. ⌜ Written (now (text .entry)) n (now (rack .exit)) (now (space .entry)) (now (space .exit)) r ⌝ }
+    requires { ⌜ Recordable (now heads) (now words) changes n (length (now space)) ⌝ }
+    ensures { λ r. ⌜ Written (now (heads .entry)) (now (words .entry)) changes n (now (rack .exit)) (now (space .entry)) (now (space .exit)) r ⌝ }
 {
     let at = record::put_rack(space, n);
-    let k = put_changes(rack, text, at, &mut space[at..]);
-    at + k
+    let m = put_changes(rack, heads, words, changes, &mut space[at..]);
+    at + m
 }
 
 // The answer of a run that was turned back.
@@ -140,22 +159,31 @@ pub fn run(rack: &mut [u8], text: &[u8], space: &mut [u8]) -> RunAnswer
     if space.len() < 65536 {
         return turned_back(3, 0);
     }
-    match trace::check(text) {
+    let mut heads = trace::heads_space();
+    let mut words = trace::words_space();
+    match trace::read(text, &mut heads, &mut words) {
         Checked::Bad(line) => turned_back(4, line),
-        Checked::Fits(n) => taken(rack, text, n, space),
+        Checked::Fits(n, changes) => taken(rack, n, &heads, &words, changes, space),
     }
 }
 
-// A run of a text that fits the grammar: "5. The board number n asked for isn't 1 to 256.", or its record.
-fn taken(rack: &mut [u8], text: &[u8], n: u32, space: &mut [u8]) -> RunAnswer
+// A run of a text that fits the grammar, whose changes are kept: "5. The board number n asked for isn't 1 to 256.", or its record.
+fn taken(
+    rack: &mut [u8],
+    n: u32,
+    heads: &[u32],
+    words: &[u32],
+    changes: usize,
+    space: &mut [u8],
+) -> RunAnswer
     requires { ⌜ sizedOf (now rack) ≡ true ⌝ }
-    requires { ⌜ Taken (now text) n (length (now space)) ⌝ }
-    ensures { λ r. ⌜ Ran base (now (rack .entry)) (now (text .entry)) (now (space .entry)) (told r) (now (rack .exit)) (now (space .exit)) ⌝ }
+    requires { ⌜ Recordable (now heads) (now words) changes n (length (now space)) ⌝ }
+    ensures { λ r. ⌜ Took (sizeGood n) (now (heads .entry)) (now (words .entry)) changes n (now (rack .entry)) (now (space .entry)) (told r) (now (rack .exit)) (now (space .exit)) ⌝ }
 {
     if engine::make(rack, n) != 0 {
         return turned_back(5, 0);
     }
-    let length = put_record(rack, text, n, space);
+    let length = put_record(rack, n, heads, words, changes, space);
     RunAnswer {
         number: 0,
         line: 0,

@@ -75,6 +75,10 @@ part-is n w = take-all (length w - n) (drop n w) (omega (arith, length-drop n w)
 pub length-part : (n : ℕ) (w : List ℕ) → length (part n w) ≡ length w - n
 length-part n w = ap length (part-is n w) ∙ length-drop n w
 
+-- the whole keeps its length
+pub length-back : (n : ℕ) (w last : List ℕ) → n ≤ length w → length last ≡ length (part n w) → length (back n w last) ≡ length w
+length-back n w last h e = simp (length-append, length-take, length-drop) (omega (arith, e, length-part n w, h))
+
 -- what was written at the start of the part stands at n of the whole
 pub put-at : {p last : List ℕ} {k : ℕ} (n : ℕ) (w : List ℕ) → Put p (part n w) last k → back n w last ≡ over n p w
 put-at {p} {last} n w h =

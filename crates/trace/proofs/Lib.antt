@@ -4,3 +4,4 @@ pub mod Whole
 pub mod Decide
 pub mod Bound
 pub mod RecordFits
+pub mod Keeping

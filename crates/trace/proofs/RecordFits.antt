@@ -19,7 +19,7 @@ use Rattle.model.proofs.Limits.{mate-inside}
 use Rattle.theory.proofs.ChangeStep as steps
 use Rattle.theory.proofs.Matching.{empty-valid}
 use Rattle.text.proofs.Answers.{Figures}
-use Rattle.trace.proofs.Bound.{Small, record-fits}
+use Rattle.trace.proofs.Bound.{Bounded, Small, record-fits}
 
 pow-pos : (j : ℕ) → 1 ≤ 4 ^ j
 pow-pos zero = omega arith
@@ -67,7 +67,10 @@ valid-figures s c ok =
       ];
     }
 
+pub bounded : Bounded base (Valid base)
+bounded = record { keeps = λ s c ok. step s c ok .valid; figures = valid-figures; small = valid-small }
+
 pub record-fits-base : (t : Trace) → 1 ≤ t .n → t .n ≤ 256 → length (traceText t) ≤ longest → length (recordText base t) ≤ spaceLength
 record-fits-base t p q short =
-    record-fits base (Valid base) (record { keeps = λ s c ok. step s c ok .valid; figures = valid-figures; small = valid-small }) t
+    record-fits base (Valid base) bounded t
     (unfold base in empty-valid base (λ j. pow-pos j) (t .n) p q) short

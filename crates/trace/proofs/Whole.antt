@@ -30,7 +30,7 @@ trace-more s n cs c t u e h =
 -- A text holds one trace alone.
 
 -- a change's line takes at least 20 bytes
-code-least : (code : ℕ) → 6 ≤ length (codeText code)
+pub code-least : (code : ℕ) → 6 ≤ length (codeText code)
 code-least code = elim (code-text code) [ inl e ↦ omega (arith, ap length e) | inr e ↦ omega (arith, ap length e) ]
 
 pub change-least : (c : Change) → 20 ≤ length (changeLine c)

@@ -1,6 +1,8 @@
 -- `run::taken` meets its contract. Assumes nothing.
-use mathlib.Core.Path.{refl, sym, _∙_}
-use Rattle.run.proofs.Whole.{made-none, made-new, ran-as, answer-of, five, recorded}
+use mathlib.Core.Path.{refl, sym, _∙_, subst}
+use mathlib.Core.Bool.{Bool}
+use Rattle.run.specs.Runs.{Took, told}
+use Rattle.run.proofs.Whole.{made-none, made-new, answer-of}
 use borrow.Author.Needs.{needs}
 use Rattle.run.proofs.taken.Statement.{statement}
 use Rattle.run.proofs.taken.Tie as tie
@@ -16,18 +18,20 @@ same-length c = search needs
 
 returns : tie.Need-returns
 returns c =
-    let p = c .before .before .before .before .before .before .before .before .before .pre in
+    let p = c .before .before .before .before .before .before .before .before .before .before .pre in
     let m = c .before .before .before .before .make .ensures in
     let n = made-none _ _ (p .0) (λ z. c .before .if1 .taken (m .0 ∙ z)) in
     let r = c .turned-back .ensures in
-    ran-as (answer-of _ (r .0) (r .1) (r .2)) (m .1 ∙ n .1) refl (five (p .0) (p .1) (n .0))
+    let a = c .before .before .before .before .before .before .before .before .before .before .args in
+    subst (λ (b : Bool). Took b (a .heads .now) (a .words .now) (a .changes) (a .n) (a .rack .now) (a .space .now) (told (c .turned-back .result)) (c .before .before .before .before .make .last .0) (a .space .now)) (sym (n .0))
+    (answer-of _ (r .0) (r .1) (r .2), m .1 ∙ n .1, refl)
 
 put-record-requires : tie.Need-put-record-requires
 put-record-requires c κs =
-    let p = c .before .before .before .before .before .before .before .before .before .before .pre in
+    let p = c .before .before .before .before .before .before .before .before .before .before .before .pre in
     let m = c .before .before .before .before .before .make .ensures in
     let n = made-new _ _ (p .0) (sym (m .0) ∙ c .before .before .if1 .left) in
-    (p .1, (n .0, m .1 ∙ n .1))
+    ((n .0, m .1 ∙ n .1), p .1)
 
 same-length-2 : tie.Need-same-length-2
 same-length-2 c = search needs
@@ -37,10 +41,13 @@ same-length-3 c = search needs
 
 returns-2 : tie.Need-returns-2
 returns-2 c =
-    let p = c .before .before .before .before .before .before .before .before .before .before .before .before .before .before .before .pre in
+    let p = c .before .before .before .before .before .before .before .before .before .before .before .before .before .before .before .before .pre in
     let m = c .before .before .before .before .before .before .before .before .before .before .make .ensures in
     let n = made-new _ _ (p .0) (sym (m .0) ∙ c .before .before .before .before .before .before .before .if1 .left) in
-    recorded (p .0) (p .1) (n .0) (c .before .before .before .before .put-record .ensures)
+    let a = c .before .before .before .before .before .before .before .before .before .before .before .before .before .before .before .before .args in
+    let r = c .before .before .before .before .put-record in
+    subst (λ (b : Bool). Took b (a .heads .now) (a .words .now) (a .changes) (a .n) (a .rack .now) (a .space .now) (record { number = 0; line = 0; length = r .result }) (r .last .0) (r .last .1 .1 .1 .1 .1 .0)) (sym (n .0))
+    (refl, refl, r .ensures)
 
 pub taken-spec : {M : Type 1} → statement M
 taken-spec = tie.close (tie.spec make-requires turned-back-requires same-length returns put-record-requires same-length-2 same-length-3 returns-2)
