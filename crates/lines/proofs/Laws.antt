@@ -145,11 +145,6 @@ unfolding texts wordText drawsText
 draws-end [] rest t h e = e
 draws-end (w ∷ v) rest t h e = absurd (h (ap (λ (l : List ℕ). getD l 0 0) e))
 
-pub draws-nil : (v rest t : List ℕ) → t ≡ [] → t ≡ drawsText v ++ rest → ⊥
-unfolding texts wordText drawsText
-draws-nil [] rest t h e = let z : _≡_ {A = ℕ} 0 41 = ap (λ (l : List ℕ). getD l 0 0) (sym h ∙ e) in omega arith
-draws-nil (w ∷ v) rest t h e = let z : _≡_ {A = ℕ} 0 32 = ap (λ (l : List ℕ). getD l 0 0) (sym h ∙ e) in omega arith
-
 -- two lists of words with the same text are the same, and so is what follows
 pub draws-same : (v w r u : List ℕ) → All Fit v → All Fit w → drawsText v ++ r ≡ drawsText w ++ u → (v ≡ w) × (r ≡ u)
 unfolding texts wordText drawsText

@@ -2,21 +2,26 @@
 -- Assumes nothing.
 use Prim.Native.Nat.{ℕ, _+_, _≤_, _<_}
 use mathlib.Core.Path.{_≡_, refl, sym, ap, _∙_, subst}
+use mathlib.Core.Logic.{inl, inr}
 use mathlib.Core.List.{List, [], _∷_, _++_, append-assoc}
 use native.Mathlib.Omega.{arith}
 use native.Mathlib.Numerals.{add-one}
 use lib.ListN.{length, getD, take, drop, set, length-append, drop-of-length-le}
-use lib.Seq.{take-suc-set}
+use lib.Seq.{take-suc-set, length-take-le}
 use Rattle.model.specs.Lists.{All}
 use Rattle.model.specs.Text.{bytes, texts}
 use Rattle.model.specs.Trace.{wordText}
+use Rattle.model.proofs.Tests.{le?, eq?}
 use Rattle.text.specs.Number.{NumberThen}
 use Rattle.text.specs.Reading.{Found, Absent}
 use Rattle.text.proofs.Decimals.{same-number, same-rest}
 use Rattle.text.proofs.Standing.{drop-more, front-of-drop}
 use Rattle.text.proofs.Texts.{texts-snoc, all-snoc, all-last}
 use Rattle.lines.specs.Pieces.{drawsText, Fit, FitWords}
-use Rattle.lines.proofs.Laws.{draws-word, draws-end, draws-nil}
+use Rattle.lines.specs.Contracts.{EndAt, WordsAt}
+use Rattle.lines.specs.declared.WordsRead.{WordsRead}
+use Rattle.lines.specs.declared.WordsRead.the-variants.{Words, NoWords}
+use Rattle.lines.proofs.Laws.{draws-word, draws-end}
 
 -- the words `got` stand from `at` up to i, and every text of words that stands at `at` starts with them
 pub record Passed (s : List ℕ) (at : ℕ) (got : List ℕ) (i : ℕ) : Type 0 where
@@ -28,24 +33,30 @@ pub passed-start : (s : List ℕ) (at : ℕ) → Passed s at [] at
 unfolding texts wordText
 passed-start s at = record { small = tt; stands = refl; forced = λ ws rest g e. (ws, refl, e) }
 
--- the text at a space
-at-space : (s : List ℕ) (i : ℕ) → i < length s → getD s i 0 ≡ 32 → drop i s ≡ 32 ∷ drop (i + 1) s
-at-space s i h b = drop-more s i h ∙ ap (λ (x : ℕ). x ∷ drop (i + 1) s) b
+-- past the end stands no space
+pub past-end : (s : List ℕ) (i : ℕ) → length s ≤ i → getD s i 0 ≡ 32 → ⊥
+past-end s i h e =
+    let z : 0 ≡ getD s i 0 = sym (ap (λ (l : List ℕ). getD l 0 0) (drop-of-length-le s h)) ∙ front-of-drop s i in
+    omega arith
 
-pub passed-word : (s : List ℕ) (at : ℕ) (got : List ℕ) (i w next : ℕ) → Passed s at got i → i < length s → getD s i 0 ≡ 32
+-- the text at a space
+at-space : (s : List ℕ) (i : ℕ) → getD s i 0 ≡ 32 → drop i s ≡ 32 ∷ drop (i + 1) s
+at-space s i b = elim (le? (length s) i) [ inl p ↦ absurd (past-end s i p b) | inr p ↦ drop-more s i p ∙ ap (λ (x : ℕ). x ∷ drop (i + 1) s) b ]
+
+pub passed-word : (s : List ℕ) (at : ℕ) (got : List ℕ) (i w next : ℕ) → Passed s at got i → getD s i 0 ≡ 32
     → NumberThen (drop (i + 1) s) w (drop next s) → Passed s at (got ++ (w ∷ [])) next
 unfolding wordText
-passed-word s at got i w next p h b k =
+passed-word s at got i w next p b k =
     record {
       small = all-snoc Fit got w (p .small) (k .small);
       stands =
           p .stands
-          ∙ ap (λ (l : List ℕ). texts wordText got ++ l) (at-space s i h b ∙ ap (λ (l : List ℕ). 32 ∷ l) (k .written))
+          ∙ ap (λ (l : List ℕ). texts wordText got ++ l) (at-space s i b ∙ ap (λ (l : List ℕ). 32 ∷ l) (k .written))
           ∙ sym (append-assoc (texts wordText got) (wordText w) (drop next s))
           ∙ ap (λ (l : List ℕ). l ++ drop next s) (sym (texts-snoc wordText got w));
       forced = λ ws rest g e.
           let (v, q, f) = p .forced ws rest g e in
-          let (x, v′, r, n) = draws-word v rest (drop (i + 1) s) (all-last Fit got v (subst (All Fit) q (g .1))) (sym (at-space s i h b) ∙ f) in (
+          let (x, v′, r, n) = draws-word v rest (drop (i + 1) s) (all-last Fit got v (subst (All Fit) q (g .1))) (sym (at-space s i b) ∙ f) in (
             v′,
             q ∙ ap (λ (l : List ℕ). got ++ l) (r ∙ ap (λ (y : ℕ). y ∷ v′) (sym (same-number k n))) ∙ sym (append-assoc got (w ∷ []) v′),
             same-rest k n,
@@ -53,19 +64,19 @@ passed-word s at got i w next p h b k =
     }
 
 -- a space with no number after it
-pub passed-refused : (s : List ℕ) (at : ℕ) (got : List ℕ) (i : ℕ) → Passed s at got i → i < length s → getD s i 0 ≡ 32
+pub passed-refused : (s : List ℕ) (at : ℕ) (got : List ℕ) (i : ℕ) → Passed s at got i → getD s i 0 ≡ 32
     → ((n : ℕ) (u : List ℕ) → NumberThen (drop (i + 1) s) n u → ⊥) → Absent drawsText FitWords s at
-passed-refused s at got i p h b no-number ws rest g e =
+passed-refused s at got i p b no-number ws rest g e =
     let (v, q, f) = p .forced ws rest g e in
-    let (x, v′, r, n) = draws-word v rest (drop (i + 1) s) (all-last Fit got v (subst (All Fit) q (g .1))) (sym (at-space s i h b) ∙ f) in
+    let (x, v′, r, n) = draws-word v rest (drop (i + 1) s) (all-last Fit got v (subst (All Fit) q (g .1))) (sym (at-space s i b) ∙ f) in
     no-number x _ n
 
 -- a word too many
-pub passed-full : (s : List ℕ) (at : ℕ) (got : List ℕ) (i : ℕ) → Passed s at got i → length got ≡ 128 → i < length s → getD s i 0 ≡ 32
+pub passed-full : (s : List ℕ) (at : ℕ) (got : List ℕ) (i : ℕ) → Passed s at got i → length got ≡ 128 → getD s i 0 ≡ 32
     → Absent drawsText FitWords s at
-passed-full s at got i p full h b ws rest g e =
+passed-full s at got i p full b ws rest g e =
     let (v, q, f) = p .forced ws rest g e in
-    let (x, v′, r, n) = draws-word v rest (drop (i + 1) s) (all-last Fit got v (subst (All Fit) q (g .1))) (sym (at-space s i h b) ∙ f) in
+    let (x, v′, r, n) = draws-word v rest (drop (i + 1) s) (all-last Fit got v (subst (All Fit) q (g .1))) (sym (at-space s i b) ∙ f) in
     omega (arith, g .0, simp length-append at (ap length (q ∙ ap (λ (l : List ℕ). got ++ l) r)))
 
 not-space : (s : List ℕ) (i : ℕ) → (getD s i 0 ≡ 32 → ⊥) → getD (drop i s) 0 0 ≡ 32 → ⊥
@@ -89,11 +100,18 @@ passed-other s at got i p other no-end ws rest g e =
     let (v, q, f) = p .forced ws rest g e in
     no-end rest (draws-end v rest (drop i s) (not-space s i other) f)
 
--- the text ends before the words do
-pub passed-out : (s : List ℕ) (at : ℕ) (got : List ℕ) (i : ℕ) → Passed s at got i → length s ≤ i → Absent drawsText FitWords s at
-passed-out s at got i p out ws rest g e =
-    let (v, q, f) = p .forced ws rest g e in
-    draws-nil v rest (drop i s) (drop-of-length-le s out) f
+-- the end was looked for where no word can stand, or none more
+pub passed-end : (s : List ℕ) (at : ℕ) (words : List ℕ) (i count : ℕ) (r : WordsRead) → Passed s at (take count words) i → count ≤ 128 → count ≤ length words
+    → (getD s i 0 ≡ 32 → count ≡ 128) → EndAt s i count r → WordsAt s at words r
+passed-end s at words i count (Words n next) p few room full (same, found) =
+    let l = length-take-le count words room in
+    subst (λ (k : ℕ). WordsAt s at words (Words k next)) (sym same) (few, passed-found s at (take count words) i next p (omega arith) (found .0) (found .1))
+passed-end s at words i count NoWords p few room full no-end =
+    let l = length-take-le count words room in
+    elim (eq? (getD s i 0) 32) [
+      | inl b ↦ let h = full b in passed-full s at (take count words) i p (omega arith) b
+      | inr b ↦ passed-other s at (take count words) i p b no-end
+    ]
 
 -- a word stored
 pub take-store : (words : List ℕ) (count w : ℕ) → count < length words → take (count + 1) (set words count w) ≡ take count words ++ (w ∷ [])

@@ -1,10 +1,16 @@
 -- What the readers of `src/` must answer, by cases on the answer. Assumes nothing.
+use mathlib.Core.Path.{_≡_}
 use mathlib.Core.List.{List}
-use Prim.Native.Nat.{ℕ, _≤_}
-use lib.ListN.{take}
+use Prim.Native.Nat.{ℕ, _+_, _≤_}
+use lib.ListN.{getD, take}
+use Rattle.model.specs.Text.{bytes}
 use Rattle.model.specs.Change.{Change}
 use Rattle.model.specs.Trace.{rackLine, codeText, changeLine, LineChange}
+use Rattle.text.specs.Number.{NumberAt}
+use Rattle.text.specs.Literal.{LiteralAt}
 use Rattle.text.specs.Reading.{Found, Absent}
+use Rattle.text.specs.declared.Number.the-variants.{Value, NoNumber}
+use Rattle.text.specs.declared.Literal.the-variants.{Next, NoLiteral}
 use Rattle.lines.specs.Pieces.{IsCode, endsText, FitEnds, drawsText, Fit, FitWords}
 use Rattle.lines.specs.declared.RackRead.{RackRead}
 use Rattle.lines.specs.declared.RackRead.the-variants.{Rack, NoRack}
@@ -12,6 +18,8 @@ use Rattle.lines.specs.declared.CodeRead.{CodeRead}
 use Rattle.lines.specs.declared.CodeRead.the-variants.{Code, NoCode}
 use Rattle.lines.specs.declared.EndsRead.{EndsRead}
 use Rattle.lines.specs.declared.EndsRead.the-variants.{Pair, NoPair}
+use Rattle.lines.specs.declared.WordRead.{WordRead}
+use Rattle.lines.specs.declared.WordRead.the-variants.{Word, NoSpace, NoWord}
 use Rattle.lines.specs.declared.WordsRead.{WordsRead}
 use Rattle.lines.specs.declared.WordsRead.the-variants.{Words, NoWords}
 use Rattle.lines.specs.declared.ChangeRead.{ChangeRead}
@@ -28,6 +36,17 @@ CodeAt s at NoCode = Absent codeText IsCode s at
 abbrev pub EndsAt : List ℕ → ℕ → EndsRead → Type 0
 EndsAt s at (Pair a b next) = Found endsText FitEnds s at (record { a = a; b = b }) next
 EndsAt s at NoPair = Absent endsText FitEnds s at
+
+-- the word after the space at `at`; or that none stands there, or a space that no number follows
+abbrev pub WordAt : List ℕ → ℕ → WordRead → Type 0
+WordAt s at (Word w next) = (getD s at 0 ≡ 32) × NumberAt s (at + 1) (Value w next)
+WordAt s at NoSpace = getD s at 0 ≡ 32 → ⊥
+WordAt s at NoWord = (getD s at 0 ≡ 32) × NumberAt s (at + 1) NoNumber
+
+-- the line's end after count words
+abbrev pub EndAt : List ℕ → ℕ → ℕ → WordsRead → Type 0
+EndAt s at count (Words n next) = (n ≡ count) × LiteralAt s at (bytes "))\n") (Next next)
+EndAt s at count NoWords = LiteralAt s at (bytes "))\n") NoLiteral
 
 -- the words stand in the first count places of `words`
 abbrev pub WordsAt : List ℕ → ℕ → List ℕ → WordsRead → Type 0

@@ -2,9 +2,9 @@
 // position after it, or that none stands there.
 use text::Literal;
 use text::Number;
-ghost use Prim.Native.Nat.{_≤_};
+ghost use Prim.Native.Nat.{_+_, _≤_};
 ghost use lib.ListN.{length};
-ghost use Rattle.lines.specs.Contracts.{RackAt, CodeAt, EndsAt, WordsAt, ChangeAt};
+ghost use Rattle.lines.specs.Contracts.{RackAt, CodeAt, EndsAt, WordAt, EndAt, WordsAt, ChangeAt};
 
 // The number of vertices, and the position after the line.
 pub enum RackRead {
@@ -20,6 +20,13 @@ pub enum CodeRead {
 pub enum EndsRead {
     Pair(u32, u32, usize),
     NoPair,
+}
+
+// The word after a space, and the position after it; or that no space stands there, or one with no number after it.
+pub enum WordRead {
+    Word(u32, usize),
+    NoSpace,
+    NoWord,
 }
 
 // How many words, and the position after them.
@@ -82,6 +89,49 @@ fn ends_at(text: &[u8], at: usize) -> EndsRead
     EndsRead::Pair(a, b, next)
 }
 
+// Reads a space and a word where twelve bytes or more are left.
+fn word_within(text: &[u8], at: usize) -> WordRead
+    requires { ⌜ at + 12 ≤ length (now text) ⌝ }
+    ensures { λ r. ⌜ WordAt (now (text .entry)) at r ⌝ }
+{
+    if text[at] != 32 {
+        return WordRead::NoSpace;
+    }
+    let Number::Value(w, next) = text::number_within(text, at + 1) else {
+        return WordRead::NoWord;
+    };
+    WordRead::Word(w, next)
+}
+
+// Reads a space and a word wherever that is.
+fn word_near_end(text: &[u8], at: usize) -> WordRead
+    ensures { λ r. ⌜ WordAt (now (text .entry)) at r ⌝ }
+{
+    if text.len() <= at {
+        return WordRead::NoSpace;
+    }
+    if text[at] != 32 {
+        return WordRead::NoSpace;
+    }
+    let Number::Value(w, next) = text::number_at(text, at + 1) else {
+        return WordRead::NoWord;
+    };
+    WordRead::Word(w, next)
+}
+
+// The same, by the quicker of the two: only the last words of a text are near its end.
+fn word_at(text: &[u8], at: usize) -> WordRead
+    ensures { λ r. ⌜ WordAt (now (text .entry)) at r ⌝ }
+{
+    if text.len() < 12 {
+        return word_near_end(text, at);
+    }
+    if text.len() - 12 < at {
+        return word_near_end(text, at);
+    }
+    word_within(text, at)
+}
+
 // "with 0 to 128 words, one space before each": reads them into the first places of `words`, and the end of the line.
 fn words_at(text: &[u8], at: usize, words: &mut [u32]) -> WordsRead
     requires { ⌜ 128 ≤ length (now words) ⌝ }
@@ -89,24 +139,33 @@ fn words_at(text: &[u8], at: usize, words: &mut [u32]) -> WordsRead
 {
     let mut i = at;
     let mut count: usize = 0;
-    while i < text.len() {
-        if text[i] != 32 {
-            let Literal::Next(next) = text::literal_at(text, i, b"))\n") else {
+    while count < 128 {
+        let word = word_at(text, i);
+        match word {
+            WordRead::Word(w, next) => {
+                words[count] = w;
+                count += 1;
+                i = next;
+            }
+            WordRead::NoSpace => {
+                return end_at(text, i, count);
+            }
+            WordRead::NoWord => {
                 return WordsRead::NoWords;
-            };
-            return WordsRead::Words(count, next);
+            }
         }
-        let Number::Value(w, next) = text::number_at(text, i + 1) else {
-            return WordsRead::NoWords;
-        };
-        if count == 128 {
-            return WordsRead::NoWords;
-        }
-        words[count] = w;
-        count += 1;
-        i = next;
     }
-    WordsRead::NoWords
+    end_at(text, i, count)
+}
+
+// Reads the end of the line after so many words.
+fn end_at(text: &[u8], at: usize, count: usize) -> WordsRead
+    ensures { λ r. ⌜ EndAt (now (text .entry)) at count r ⌝ }
+{
+    let Literal::Next(next) = text::literal_at(text, at, b"))\n") else {
+        return WordsRead::NoWords;
+    };
+    WordsRead::Words(count, next)
 }
 
 // "Each further line is `(add (A B) (draws W W))` or the same with `drop`": its words go to the first places of `words`.

@@ -61,6 +61,9 @@ pub digit-above : (b : ℕ) → 57 < b → isDigit b ≡ false
 unfolding isDigit
 digit-above b h = elim (le? 48 b) [ inr p ↦ digit-below b p | inl p ↦ simp (le-leb 48 b p, lt-leb b 57 h) ]
 
+pub digit-out : (b : ℕ) → (48 ≤ b → 57 < b) → isDigit b ≡ false
+digit-out b h = elim (le? 48 b) [ inr p ↦ digit-below b p | inl p ↦ digit-above b (h p) ]
+
 -- the digits that t starts with
 lead : List ℕ → List ℕ
 lead [] = []

@@ -1,9 +1,9 @@
 // Numbers and fixed texts in bytes: each reader says what stands at a position of a text, each writer writes at the start of what it is
 // lent. A reader takes any position: past the end nothing stands.
-ghost use Prim.Native.Nat.{_≤_, _<_};
+ghost use Prim.Native.Nat.{_+_, _≤_, _<_};
 ghost use lib.ListN.{length};
 ghost use Rattle.model.specs.Text.{decimal};
-ghost use Rattle.text.specs.Number.{NumberAt};
+ghost use Rattle.text.specs.Number.{DigitOf, Begins, NumberAt};
 ghost use Rattle.text.specs.Literal.{LiteralAt};
 ghost use Rattle.text.specs.Writing.{Put};
 
@@ -53,6 +53,63 @@ pub fn number_at(s: &[u8], at: usize) -> Number
         i += 1;
     }
     Number::Value(v as u32, i)
+}
+
+// The digit that b is, or more than 9: one difference and one comparison test a byte, and its digit is there.
+fn digit(b: u8) -> u32
+    ensures { λ r. ⌜ DigitOf b r ⌝ }
+{
+    std::num::wrapping_sub_u32(b as u32, 48)
+}
+
+// The same as number_at, where eleven bytes or more are left: ten digits and what follows them need no test whether the text has ended, and
+// nine digits none whether they fit.
+pub fn number_within(s: &[u8], at: usize) -> Number
+    requires { ⌜ at + 11 ≤ length (now s) ⌝ }
+    ensures { λ r. ⌜ NumberAt (now (s .entry)) at r ⌝ }
+{
+    let first = digit(s[at]);
+    if 9 < first {
+        return Number::NoNumber;
+    }
+    let second = digit(s[at + 1]);
+    if 9 < second {
+        return Number::Value(first, at + 1);
+    }
+    if first == 0 {
+        return Number::NoNumber;
+    }
+    let mut v = first * 10 + second;
+    let mut k = 2;
+    while k < 9 {
+        let d = digit(s[at + k]);
+        if 9 < d {
+            return Number::Value(v, at + k);
+        }
+        v = v * 10 + d;
+        k += 1;
+    }
+    tenth(s, at, v)
+}
+
+// Goes on after the nine digits of v: a tenth may make a number, an eleventh makes none.
+fn tenth(s: &[u8], at: usize, v: u32) -> Number
+    requires { ⌜ at + 11 ≤ length (now s) ⌝ }
+    requires { ⌜ Begins (now s) at 9 v ⌝ }
+    ensures { λ r. ⌜ NumberAt (now (s .entry)) at r ⌝ }
+{
+    let d = digit(s[at + 9]);
+    if 9 < d {
+        return Number::Value(v, at + 9);
+    }
+    let w = v as u64 * 10 + d as u64;
+    if 4294967295 < w {
+        return Number::NoNumber;
+    }
+    if digit(s[at + 10]) < 10 {
+        return Number::NoNumber;
+    }
+    Number::Value(w as u32, at + 10)
 }
 
 // Reads the fixed text p. An empty one would stand even past the end, so none is asked for.
