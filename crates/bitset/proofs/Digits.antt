@@ -127,15 +127,15 @@ ones-pos : (n : ℕ) → 0 < ones n → 0 < n
 ones-pos zero h = absurd (omega (arith, ones-zero))
 ones-pos (suc n) h = zero-lt-suc n
 
--- a digit that is set in a byte stands below 8
-pub set-small : (b j : ℕ) → b < 2 ^ 8 → digit b j ≡ 1 → j < 8
+-- a digit that is set in a number of m digits stands below m
+pub set-small : (m b j : ℕ) → b < 2 ^ m → digit b j ≡ 1 → j < m
 unfolding digit
-set-small b j hb e = go (native.Mathlib.Decide.decLt j 8)
+set-small m b j hb e = go (native.Mathlib.Decide.decLt j m)
   where
-    go : Dec (j < 8) → j < 8
+    go : Dec (j < m) → j < m
     go (yes h) = h
     go (no g) =
-        let z : b / 2 ^ j ≡ 0 = native.Mathlib.Nat.div-eq-of-lt (native.Mathlib.Nat.lt-of-lt-of-le hb (pow-mono {i = 8} {j = j} (omega arith))) in
+        let z : b / 2 ^ j ≡ 0 = native.Mathlib.Nat.div-eq-of-lt (native.Mathlib.Nat.lt-of-lt-of-le hb (pow-mono {i = m} {j = j} (omega arith))) in
         absurd (omega (arith, z, e))
 
 -- the first set digit of a byte that is not 0
@@ -160,7 +160,7 @@ next b at hb ha set more =
     ap (λ (x : ℕ). ones (b % 2 ^ x)) (add-comm m t) ∙ ap ones (mod-pow-add b t m)
     ∙ ones-cat m (hi % 2 ^ t) (b % 2 ^ m) (mod-lt b (pow-pos m))
     ∙ ap (λ (x : ℕ). ones x + ones (b % 2 ^ m)) (r .2) ∙ zero-add' (ones (b % 2 ^ m)) in
-    let small : m + t < 8 = set-small b (m + t) hb is in
+    let small : m + t < 8 = set-small 8 b (m + t) hb is in
     (omega arith, small, is, lo ∙ below)
   where
     le-lt : {a c d : ℕ} → a ≤ c → c < d → a < d

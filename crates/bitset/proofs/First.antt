@@ -1,27 +1,21 @@
--- The first member from a place on: in the byte at hand by its trailing zeros, or past a byte that has none left. Assumes nothing.
-use mathlib.Core.Path.{_≡_, sym, ap, _∙_, subst, subst₂}
+-- The first member from a place on: in the word at hand by its trailing zeros, or past one that has none left. Assumes nothing.
+use mathlib.Core.Path.{_≡_, sym, ap, _∙_, subst}
 use mathlib.Core.Logic.{inl, inr}
 use mathlib.Core.List.{List}
-use Prim.Native.Nat.{ℕ, zero, suc, _+_, _-_, _*_, _/_, _%_, _^_, _≤_, _<_}
-use native.Mathlib.Nat.{div-one, zero-div}
+use Prim.Native.Nat.{ℕ, suc, _+_, _-_, _*_, _/_, _%_, _^_, _≤_, _<_}
+use native.Mathlib.Nat.{zero-div}
 use native.Mathlib.Omega.{arith}
 use lib.Dec.{T}
 use lib.Pow.{pow-pos, mod-pow-add, shr-le}
 use lib.ListN.{length, getD}
 use lib.Count.{trailingZeros}
 use Rattle.model.specs.Bytes.{bitOf}
-use Rattle.model.proofs.Tests.{eq?, le?}
-use Rattle.bitset.specs.Row.{member, Next}
-use Rattle.bitset.proofs.Digits.{digit, digit-lt, digit-shr, digit-bitOf, bitOf-digit, low-suc, trailing, set-small}
+use Rattle.model.proofs.Tests.{le?}
+use Rattle.bitset.specs.Row.{member, Next, NextBelow}
+use Rattle.bitset.specs.Words.{Rest}
+use Rattle.bitset.proofs.Digits.{digit, digit-shr, digit-bitOf, bitOf-digit, low-suc, trailing, set-small}
 
--- a member of byte i is a digit of the byte, both ways
-pub member-digit : (row : List ℕ) (i j : ℕ) → j < 8 → T (member row (8 * i + j)) → digit (getD row i 0) j ≡ 1
-unfolding member
-member-digit row i j h t =
-    let q : (8 * i + j) / 8 ≡ i = omega arith in
-    let r : (8 * i + j) % 8 ≡ j = omega arith in
-    bitOf-digit (getD row i 0) j (subst (λ (x : ℕ). T (bitOf (getD row i 0) x)) r (subst (λ (x : ℕ). T (bitOf (getD row x 0) ((8 * i + j) % 8))) q t))
-
+-- a digit of byte i is a member of the row
 pub digit-member : (row : List ℕ) (i j : ℕ) → j < 8 → digit (getD row i 0) j ≡ 1 → T (member row (8 * i + j))
 unfolding member
 digit-member row i j h e =
@@ -44,79 +38,97 @@ zero-digit : (x k : ℕ) → x ≡ 0 → digit x k ≡ 1 → ⊥
 unfolding digit
 zero-digit x k z e = omega (arith, e, ap (λ (y : ℕ). y / 2 ^ k % 2) z ∙ ap (λ (y : ℕ). y % 2) (zero-div (2 ^ k)))
 
-module _ (row : List ℕ) (i a : ℕ) (fits : getD row i 0 < 256) where
-  -- a place of the byte from a on, as a digit of what is left of it
-  left-digit : (w : ℕ) → 8 * i + a ≤ w → w < 8 * i + 8 → T (member row w) → digit (getD row i 0 / 2 ^ a) (w - (8 * i + a)) ≡ 1
-  left-digit w h k t =
-      let e : 8 * i + (w - 8 * i) ≡ w = omega arith in
-      let f : a + (w - (8 * i + a)) ≡ w - 8 * i = omega arith in
-      digit-shr (getD row i 0) a (w - (8 * i + a)) ∙ ap (digit (getD row i 0)) f
-      ∙ member-digit row i (w - 8 * i) (omega arith) (subst (λ (x : ℕ). T (member row x)) (sym e) t)
+-- x holds the places of the row from `base` on, as many as `width`, as its digits
+pub record Block (row : List ℕ) (base width x : ℕ) : Type 0 where
+  pub fits : x < 2 ^ width
+  pub inside : base + width ≤ 8 * length row
+  pub there : (j : ℕ) → j < width → T (member row (base + j)) → digit x j ≡ 1
+  pub back : (j : ℕ) → j < width → digit x j ≡ 1 → T (member row (base + j))
 
-  pub next-at : i < length row → 0 < getD row i 0 / 2 ^ a
-      → (a + trailingZeros 8 (getD row i 0 / 2 ^ a) < 8) × Next row (8 * i + a) (8 * i + (a + trailingZeros 8 (getD row i 0 / 2 ^ a)))
-  next-at l p =
-      let x = getD row i 0 in
-      let t = trailingZeros 8 (x / 2 ^ a) in
-      let s : x / 2 ^ a < 256 = omega (arith, shr-le x a) in
-      let r = trailing 8 (x / 2 ^ a) s p in
+-- word k of the row is such a block
+pub word-block : (row : List ℕ) (k x : ℕ) → k < length row / 8 → Rest (λ j. member row (8 * (8 * k) + j)) 0 x → Block row (64 * k) 64 x
+word-block row k x l rest =
+    let e : (j : ℕ) → 8 * (8 * k) + j ≡ 64 * k + j = λ j. omega arith in
+    let same : (j : ℕ) → j < 64 → bitOf x j ≡ member row (64 * k + j) = λ j h. rest .same j (omega arith) h ∙ ap (member row) (e j) in
+    record {
+      fits = rest .fits;
+      inside = omega arith;
+      there = λ j h t. bitOf-digit x j (subst T (sym (same j h)) t);
+      back = λ j h d. subst T (same j h) (digit-bitOf x j d);
+    }
+
+-- what is left of the block from its place a on
+module _ {row : List ℕ} {base width x : ℕ} (block : Block row base width x) (a from : ℕ) (at : base + a ≡ from) where
+  -- a place from there on, as a digit of it
+  left-digit : (w : ℕ) → from ≤ w → w < base + width → T (member row w) → digit (x / 2 ^ a) (w - from) ≡ 1
+  left-digit w h k t =
+      let e : base + (w - base) ≡ w = omega arith in
+      let f : a + (w - from) ≡ w - base = omega arith in
+      digit-shr x a (w - from) ∙ ap (digit x) f
+      ∙ block .there (w - base) (omega arith) (subst (λ (y : ℕ). T (member row y)) (sym e) t)
+
+  -- its trailing zeros lead to the first member
+  pub next-from : 0 < x / 2 ^ a
+      → (trailingZeros width (x / 2 ^ a) < width) × Next row from (from + trailingZeros width (x / 2 ^ a))
+  next-from p =
+      let t = trailingZeros width (x / 2 ^ a) in
+      let s : x / 2 ^ a < 2 ^ width = omega (arith, shr-le x a, block .fits) in
+      let r = trailing width (x / 2 ^ a) s p in
       let is : digit x (a + t) ≡ 1 = sym (digit-shr x a t) ∙ r .1 in
-      let small : a + t < 8 = set-small x (a + t) fits is in (
-        small,
+      let small : a + t < width = set-small width x (a + t) (block .fits) is in
+      let e : base + (a + t) ≡ from + t = omega (arith, at) in (
+        omega (arith, small),
         record {
           after = omega arith;
-          within = omega arith;
-          none = λ w h k m. no-digit (x / 2 ^ a) t (w - (8 * i + a)) (r .2) (omega arith) (left-digit w h (omega arith) m);
-          is = λ _. digit-member row i (a + t) small is;
+          within = omega (arith, block .inside, small, at);
+          none = λ w h k m. no-digit (x / 2 ^ a) t (w - from) (r .2) (omega arith) (left-digit w h (omega (arith, small, at)) m);
+          is = λ _. subst (λ (y : ℕ). T (member row y)) e (block .back (a + t) small is);
         },
       )
 
-  pub next-past : a ≤ 8 → getD row i 0 / 2 ^ a ≡ 0 → (r : ℕ) → Next row (8 * (i + 1)) r → Next row (8 * i + a) r
-  next-past b z r n = record {
-    after = omega (arith, n .after);
+  -- where it is 0 there is none
+  pub none-left : x / 2 ^ a ≡ 0 → (w : ℕ) → from ≤ w → w < base + width → T (member row w) → ⊥
+  none-left z w h k m = zero-digit (x / 2 ^ a) (w - from) z (left-digit w h k m)
+
+-- ---- the walk: nothing stands from `from` up to w
+
+pub next-start : (row : List ℕ) (from : ℕ) → from ≤ 8 * length row → NextBelow row 0 from from
+next-start row from h = record {
+  after = omega arith;
+  within = h;
+  none = λ w a b m. absurd (omega arith);
+  is = λ b. absurd (omega arith);
+}
+
+module _ {row : List ℕ} {from w : ℕ} (passed : NextBelow row 0 from w) where
+  -- a stretch more without a member
+  pub next-more : (v : ℕ) → w ≤ v → v ≤ 8 * length row → ((x : ℕ) → w ≤ x → x < v → T (member row x) → ⊥) → NextBelow row 0 from v
+  next-more v h k g = record {
+    after = omega (arith, passed .after);
+    within = k;
+    none = λ x a b m. elim (le? w x) [ inl p ↦ g x p b m | inr p ↦ passed .none x a (omega arith) m ];
+    is = λ b. absurd (omega arith);
+  }
+
+  -- what is first from there on is first
+  pub next-on : {r : ℕ} → Next row w r → Next row from r
+  next-on {r} n = record {
+    after = omega (arith, passed .after, n .after);
     within = n .within;
-    none = λ w h k m. elim (le? (8 * (i + 1)) w) [
-      | inl g ↦ n .none w g k m
-      | inr g ↦ zero-digit (getD row i 0 / 2 ^ a) (w - (8 * i + a)) z (left-digit w h (omega arith) m)
-    ];
+    none = next-more r (n .after) (n .within) (n .none) .none;
     is = n .is;
   }
 
--- the same from the start of a byte on
-module _ (row : List ℕ) (i : ℕ) (fits : getD row i 0 < 256) where
-  whole : getD row i 0 / 2 ^ 0 ≡ getD row i 0
-  whole = div-one (getD row i 0)
+  -- w itself is first where it is a member or the end of the row
+  pub next-found : (w < 8 * length row → T (member row w)) → Next row from w
+  next-found m = record { after = passed .after; within = passed .within; none = passed .none; is = m }
 
-  pub next-whole : i < length row → 0 < getD row i 0
-      → (trailingZeros 8 (getD row i 0) < 8) × Next row (8 * i) (8 * i + trailingZeros 8 (getD row i 0))
-  next-whole l p =
-      let n = next-at row i 0 fits l (omega (arith, whole)) in
-      let e : 0 + trailingZeros 8 (getD row i 0 / 2 ^ 0) ≡ trailingZeros 8 (getD row i 0) = omega (arith, ap (trailingZeros 8) whole) in (
-        omega (arith, n .0, e),
-        subst₂ (Next row) (omega arith) (ap (λ (x : ℕ). 8 * i + x) e) (n .1),
-      )
+  pub next-end : (end : ℕ) → end ≤ w → NextBelow row end from w
+  next-end end h = record { after = passed .after; within = passed .within; none = passed .none; is = λ b. absurd (omega arith) }
 
-  pub next-whole-past : getD row i 0 ≡ 0 → (r : ℕ) → Next row (8 * (i + 1)) r → Next row (8 * i) r
-  next-whole-past z r n = subst (λ (x : ℕ). Next row x r) (omega arith) (next-past row i 0 fits (omega arith) (whole ∙ z) r n)
+-- what is first in the row is first in a part of it, and is walked past
+pub next-below : {row : List ℕ} {from r : ℕ} (end : ℕ) → end ≤ 8 * length row → Next row from r → NextBelow row end from r
+next-below end h n = record { after = n .after; within = n .within; none = n .none; is = λ b. n .is (omega arith) }
 
--- the same from any place on
-module _ (row : List ℕ) (from : ℕ) (fits : getD row (from / 8) 0 < 256) where
-  pub next-from : from / 8 < length row → 0 < getD row (from / 8) 0 / 2 ^ (from % 8)
-      → (trailingZeros 8 (getD row (from / 8) 0 / 2 ^ (from % 8)) < 8)
-      × Next row from (from + trailingZeros 8 (getD row (from / 8) 0 / 2 ^ (from % 8)))
-  next-from l p =
-      let n = next-at row (from / 8) (from % 8) fits l p in
-      (omega (arith, n .0), subst₂ (Next row) (omega arith) (omega arith) (n .1))
-
-  pub next-from-past : getD row (from / 8) 0 / 2 ^ (from % 8) ≡ 0 → (r : ℕ) → Next row (8 * (from / 8 + 1)) r → Next row from r
-  next-from-past z r n =
-      subst (λ (x : ℕ). Next row x r) (omega arith) (next-past row (from / 8) (from % 8) fits (omega arith) z r n)
-
--- from the end on there is nothing
-pub next-end : (row : List ℕ) (from : ℕ) → from ≡ 8 * length row → Next row from from
-next-end row from e = record {
-  after = omega arith;
-  within = omega arith;
-  none = λ w h k m. omega arith;
-  is = λ h. absurd (omega arith);
-}
+pub next-walked : {row : List ℕ} {end from r : ℕ} → NextBelow row end from r → NextBelow row 0 from r
+next-walked n = record { after = n .after; within = n .within; none = n .none; is = λ b. absurd (omega arith) }

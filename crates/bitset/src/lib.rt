@@ -7,7 +7,7 @@ ghost use lib.ListN.{length, getD};
 ghost use lib.Count.{ones as onesOf};
 ghost use Rattle.model.specs.Bytes.{bitOf};
 ghost use Rattle.model.proofs.Facts.{Says};
-ghost use Rattle.bitset.specs.Row.{member, inserted, removed, Nth, Next, size as sizeOf};
+ghost use Rattle.bitset.specs.Row.{member, inserted, removed, Nth, Next, NextBelow, size as sizeOf};
 ghost use Rattle.bitset.specs.Words.{Rest};
 
 // Whether place w is in the row.
@@ -86,40 +86,6 @@ pub fn nth(row: &[u8], k: usize) -> usize
     8 * i + nth_one(row[i], left) as usize
 }
 
-// The first member from byte i on, or the end of the row: whole bytes of zeros are passed over.
-fn next_byte(row: &[u8], from: usize) -> usize
-    requires { ⌜ length (now row) < 2 ^ 60 ⌝ }
-    requires { ⌜ from ≤ length (now row) ⌝ }
-    ensures { λ r. ⌜ Next (now (row .entry)) (8 * from) r ⌝ }
-{
-    let mut i = from;
-    while i < row.len() {
-        let b = row[i];
-        if b != 0 {
-            return 8 * i + u8::trailing_zeros(b) as usize;
-        }
-        i += 1;
-    }
-    8 * i
-}
-
-// The first member from place `from` on, or the end of the row where there is none.
-pub fn next(row: &[u8], from: usize) -> usize
-    requires { ⌜ length (now row) < 2 ^ 60 ⌝ }
-    requires { ⌜ from ≤ 8 * length (now row) ⌝ }
-    ensures { λ r. ⌜ Next (now (row .entry)) from r ⌝ }
-{
-    let i = from / 8;
-    if row.len() <= i {
-        return from;
-    }
-    let rest = row[i] >> (from % 8);
-    if rest != 0 {
-        return from + u8::trailing_zeros(rest) as usize;
-    }
-    next_byte(row, i + 1)
-}
-
 // Eight bytes as one word, low byte first. Taken as parameters the bytes have their range, so nothing is left to prove of them.
 fn join(b0: u8, b1: u8, b2: u8, b3: u8, b4: u8, b5: u8, b6: u8, b7: u8) -> u64
     ensures { λ r. ⌜ r ≡ b0 + 256 * b1 + 65536 * b2 + 16777216 * b3 + 4294967296 * b4 + 1099511627776 * b5 + 281474976710656 * b6 + 72057594037927936 * b7 ⌝ }
@@ -149,6 +115,53 @@ pub fn word(row: &[u8], i: usize) -> u64
         row[i + 6],
         row[i + 7],
     )
+}
+
+// The first member from place `from` on among the whole words of the row, or a place past them before which there is none.
+fn next_in_words(row: &[u8], from: usize) -> usize
+    requires { ⌜ length (now row) < 2 ^ 60 ⌝ }
+    requires { ⌜ from ≤ 8 * length (now row) ⌝ }
+    ensures { λ r. ⌜ NextBelow (now (row .entry)) (64 * (length (now (row .entry)) / 8)) from r ⌝ }
+{
+    let words = row.len() / 8;
+    let mut w = from;
+    while w / 64 < words {
+        let rest = word(row, 8 * (w / 64)) >> (w % 64);
+        if rest != 0 {
+            return w + u64::trailing_zeros(rest) as usize;
+        }
+        w = 64 * (w / 64 + 1);
+    }
+    w
+}
+
+// The first member from place `from` on, place by place.
+fn next_place(row: &[u8], from: usize) -> usize
+    requires { ⌜ length (now row) < 2 ^ 60 ⌝ }
+    requires { ⌜ from ≤ 8 * length (now row) ⌝ }
+    ensures { λ r. ⌜ Next (now (row .entry)) from r ⌝ }
+{
+    let mut w = from;
+    while w < 8 * row.len() {
+        if test(row, w) {
+            return w;
+        }
+        w += 1;
+    }
+    w
+}
+
+// The first member from place `from` on, or the end of the row where there is none: by words, then by the places that fill no word.
+pub fn next(row: &[u8], from: usize) -> usize
+    requires { ⌜ length (now row) < 2 ^ 60 ⌝ }
+    requires { ⌜ from ≤ 8 * length (now row) ⌝ }
+    ensures { λ r. ⌜ Next (now (row .entry)) from r ⌝ }
+{
+    let w = next_in_words(row, from);
+    if w < 64 * (row.len() / 8) {
+        return w;
+    }
+    next_place(row, w)
 }
 
 // The number of places in a row of whole words of eight bytes.
