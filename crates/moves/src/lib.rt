@@ -8,6 +8,7 @@ ghost use Rattle.model.specs.State.{base};
 ghost use Rattle.model.specs.Bytes.{most as mostOf, phiAt, image, fieldsOf, read, write};
 ghost use Rattle.model.specs.Moves.{part as parted, rise as risen, marry as married, handOver};
 ghost use Rattle.layout.specs.Setters.{Sized, own as owned, disown as disowned};
+ghost use Rattle.layout.specs.Rows.{degreeAt};
 ghost use Rattle.moves.specs.Proper.{Held, tookOver, ranked, RowBelow};
 ghost use Rattle.moves.specs.Counts.{withCounts, loweredFrom, zeroedBelow, loweredCounts, raisedCounts};
 
@@ -174,14 +175,13 @@ fn raise_counts(rack: &mut [u8], v: usize, i: usize)
     }
 }
 
-// "v falls to i-1", once it owns edges to vertices below i alone.
-pub fn fall(rack: &mut [u8], v: usize, i: usize)
+// "v falls to i-1", once it owns edges to vertices below i alone, k of them.
+pub fn fall(rack: &mut [u8], v: usize, i: usize, k: usize)
     requires { ⌜ Held (now rack) ⌝ }
     requires { ⌜ (v < read (now rack) .n) × (read (now rack) .rank v ≡ suc i) × (i ≤ base .top) ⌝ }
-    requires { ⌜ RowBelow i v (read (now rack)) ⌝ }
+    requires { ⌜ (RowBelow i v (read (now rack))) × (k ≡ degreeAt (now rack) v) ⌝ }
     ensures { λ _. ⌜ now (rack .exit) ≡ write (ranked v i (read (now (rack .entry)))) ⌝ }
 {
-    let k = layout::degree(rack, v);
     raise_counts(rack, v, i);
     layout::set_phi(rack, v, i, k as u8);
     layout::set_rank(rack, v, i as u8);
