@@ -117,22 +117,39 @@ pub fn word(row: &[u8], i: usize) -> u64
     )
 }
 
+// The first member from word `from` on among the whole words of the row, or their end.
+fn next_word(row: &[u8], from: usize) -> usize
+    requires { ⌜ length (now row) < 2 ^ 60 ⌝ }
+    requires { ⌜ 8 * from ≤ length (now row) ⌝ }
+    ensures { λ r. ⌜ NextBelow (now (row .entry)) (64 * (length (now (row .entry)) / 8)) (64 * from) r ⌝ }
+{
+    let words = row.len() / 8;
+    let mut k = from;
+    while k < words {
+        let x = word(row, 8 * k);
+        if x != 0 {
+            return 64 * k + u64::trailing_zeros(x) as usize;
+        }
+        k += 1;
+    }
+    64 * k
+}
+
 // The first member from place `from` on among the whole words of the row, or a place past them before which there is none.
 fn next_in_words(row: &[u8], from: usize) -> usize
     requires { ⌜ length (now row) < 2 ^ 60 ⌝ }
     requires { ⌜ from ≤ 8 * length (now row) ⌝ }
     ensures { λ r. ⌜ NextBelow (now (row .entry)) (64 * (length (now (row .entry)) / 8)) from r ⌝ }
 {
-    let words = row.len() / 8;
-    let mut w = from;
-    while w / 64 < words {
-        let rest = word(row, 8 * (w / 64)) >> (w % 64);
-        if rest != 0 {
-            return w + u64::trailing_zeros(rest) as usize;
-        }
-        w = 64 * (w / 64 + 1);
+    let k = from / 64;
+    if row.len() / 8 <= k {
+        return from;
     }
-    w
+    let rest = word(row, 8 * k) >> (from % 64);
+    if rest != 0 {
+        return from + u64::trailing_zeros(rest) as usize;
+    }
+    next_word(row, k + 1)
 }
 
 // The first member from place `from` on, place by place.
