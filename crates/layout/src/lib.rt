@@ -143,14 +143,15 @@ pub fn set_phi(rack: &mut [u8], v: usize, j: usize, x: u8)
     rack[776 + (4 * v + j)] = x;
 }
 
-// Whether vertex v owns the edge v-w.
+// Whether vertex v owns the edge v-w. As a place of its row, w's byte and bit stay the same from row to row.
 pub fn owns(rack: &[u8], v: usize, w: usize) -> bool
     requires { ⌜ Sized (now rack) ⌝ }
     requires { ⌜ v < mostOf ⌝ }
     requires { ⌜ w < mostOf ⌝ }
     ensures { λ r. ⌜ r ≡ ownsAt (now (rack .entry)) v w ⌝ }
 {
-    bitset::test(rack, 14400 + (256 * v + w))
+    let at = 1800 + 32 * v;
+    bitset::test(&rack[at..at + 32], w)
 }
 
 // Whether there is an edge v-w: one of its ends owns it.

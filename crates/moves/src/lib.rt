@@ -8,6 +8,7 @@ ghost use Rattle.model.specs.State.{base};
 ghost use Rattle.model.specs.Bytes.{most as mostOf, phiAt, image, fieldsOf, read, write};
 ghost use Rattle.model.specs.Moves.{part as parted, rise as risen, marry as married, handOver};
 ghost use Rattle.layout.specs.Setters.{Sized, own as owned, disown as disowned};
+ghost use Rattle.layout.specs.Rows.{degreeAt};
 ghost use Rattle.moves.specs.Proper.{Held, tookOver, ranked, RowBelow};
 ghost use Rattle.moves.specs.Counts.{withCounts, loweredFrom, zeroedBelow, loweredCounts, raisedCounts};
 
@@ -46,20 +47,16 @@ fn pass(rack: &mut [u8], v: usize, w: usize)
 }
 
 // u takes every edge to a vertex below level i: the first half of a rise. Its count at i less the edges that it owns already says how many
-// owners are still to be found.
+// owners are still to be found, so that the walk needs no other end.
 fn take_over(rack: &mut [u8], u: usize, i: usize)
     requires { ⌜ Held (now rack) ⌝ }
     requires { ⌜ (u < read (now rack) .n) × (read (now rack) .rank u ≤ i) × (i ≤ base .top) ⌝ }
     requires { ⌜ ((w : ℕ) → T (read (now rack) .owns u w) → read (now rack) .rank w ≤ i) ⌝ }
     ensures { λ _. ⌜ now (rack .exit) ≡ write (tookOver i u (read (now (rack .entry)))) ⌝ }
 {
-    let n = layout::size(rack);
     let mut missing = layout::phi(rack, u, i) as usize - layout::degree(rack, u);
     let mut w = 0;
-    while w < n {
-        if missing == 0 {
-            return;
-        }
+    while 0 < missing {
         if layout::owns(rack, w, u) {
             if layout::rank(rack, w) as usize <= i {
                 pass(rack, w, u);
@@ -174,14 +171,13 @@ fn raise_counts(rack: &mut [u8], v: usize, i: usize)
     }
 }
 
-// "v falls to i-1", once it owns edges to vertices below i alone.
-pub fn fall(rack: &mut [u8], v: usize, i: usize)
+// "v falls to i-1", once it owns edges to vertices below i alone, k of them.
+pub fn fall(rack: &mut [u8], v: usize, i: usize, k: usize)
     requires { ⌜ Held (now rack) ⌝ }
     requires { ⌜ (v < read (now rack) .n) × (read (now rack) .rank v ≡ suc i) × (i ≤ base .top) ⌝ }
-    requires { ⌜ RowBelow i v (read (now rack)) ⌝ }
+    requires { ⌜ (RowBelow i v (read (now rack))) × (k ≡ degreeAt (now rack) v) ⌝ }
     ensures { λ _. ⌜ now (rack .exit) ≡ write (ranked v i (read (now (rack .entry)))) ⌝ }
 {
-    let k = layout::degree(rack, v);
     raise_counts(rack, v, i);
     layout::set_phi(rack, v, i, k as u8);
     layout::set_rank(rack, v, i as u8);

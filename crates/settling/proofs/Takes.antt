@@ -21,7 +21,7 @@ use Rattle.settling.proofs.Entries.{row-degree}
 use Rattle.settling.proofs.Written.{Draws, draws-of}
 use Rattle.settling.proofs.Scans.{left-same}
 
--- what a fall of v from level i asks, and what the scan after it asks
+-- what a fall of v from level i asks, but for the size of its row, and what the scan after it asks
 abbrev pub Falls : List ℕ → ℕ → ℕ → State → Type 0
 Falls b i v s = Held b × (((v < s .n) × (s .rank v ≡ suc i) × (i ≤ base .top)) × RowBelow i v s)
 
@@ -61,15 +61,16 @@ module _ {bs : List ℕ} {i v : ℕ} {b : List ℕ} (a : Handed bs i v b) where
       let f = handed-falls .1 in
       row-degree b handed-held i v (f .0 .0) (f .1) ∙ ap (λ (s : State). below s v i) handed-read
 
-  pub handed-draws : {row : List ℕ} (d : ℕ) → base .thr i ≤ degreeAt b v → Waiting row (read bs) → d ≤ 1000000 → Draws b i v row d (read b)
+  pub handed-draws : {row : List ℕ} (k d : ℕ) → k ≡ degreeAt b v → base .thr i ≤ degreeAt b v → Waiting row (read bs) → d ≤ 1000000
+      → Draws b i v k row d (read b)
   unfolding handOver
-  handed-draws d n w x =
+  handed-draws k d g n w x =
       let s : State = handOver i v (read bs) in
-      draws-of s (a .bytes) (handed-kept .proper) i v d (
+      draws-of s (a .bytes) (handed-kept .proper) i v k d (
         (handed-held, handed-kept .ordered),
         (
-          (a .inside, a .rank, a .level),
-          ((handed-row, omega (arith, base-pos i, handed-degree)), (waits-but v (waits-handed (read bs) i v w), x)),
+          (a .inside, a .level),
+          ((handed-row, omega (arith, base-pos i, handed-degree), g), (waits-but v (waits-handed (read bs) i v w), x)),
         ),
       )
 

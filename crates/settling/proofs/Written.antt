@@ -8,7 +8,7 @@ use lib.Dec.{T}
 use Rattle.model.specs.State.{base, State, near, below}
 use Rattle.model.specs.Bytes.{read, write}
 use Rattle.model.specs.Moves.{at, part, rise, marry, chosen, drawn, draw, promote}
-use Rattle.theory.proofs.Fits.{lift-is}
+use Rattle.layout.specs.Rows.{degreeAt}
 use Rattle.moves.specs.Proper.{Proper, Ordered, Held, RowBelow, tookOver}
 use Rattle.moves.proofs.Edges.{near-low}
 use Rattle.moves.proofs.Keeps.{part-proper, took-proper, took-row, ranked-row, rise-halves}
@@ -30,13 +30,13 @@ pub record Rising (bs : List ℕ) (i v : ℕ) : Type 0 where
 abbrev pub Rises : ℕ → ℕ → State → Type 0
 Rises i v s = ((v < s .n) × (s .rank v ≤ i) × (i ≤ base .top)) × ((w : ℕ) → T (s .owns v w) → s .rank w ≤ i)
 
--- what a draw at u asks of the bytes, their state, the row and the number of draws
-abbrev pub Draws : List ℕ → ℕ → ℕ → List ℕ → ℕ → State → Type 0
-Draws b i u row d s =
-    (Held b × Ordered s) × (((u < s .n) × (s .rank u ≡ suc i) × (i ≤ base .top)) × ((RowBelow i u s × (1 ≤ below s u i)) × (WaitingBut u row s × (d ≤ 1000000))))
+-- what a draw at u among k asks of the bytes, their state, the row and the number of draws
+abbrev pub Draws : List ℕ → ℕ → ℕ → ℕ → List ℕ → ℕ → State → Type 0
+Draws b i u k row d s =
+    (Held b × Ordered s) × (((u < s .n) × (i ≤ base .top)) × ((RowBelow i u s × (1 ≤ below s u i) × (k ≡ degreeAt b u)) × (WaitingBut u row s × (d ≤ 1000000))))
 
-pub draws-of : {b row : List ℕ} (s : State) → b ≡ write s → Proper s → (i u d : ℕ) → Draws b i u row d s → Draws b i u row d (read b)
-draws-of {b} {row} s e p i u d a = subst (Draws b i u row d) (sym (reads-as b s e p)) a
+pub draws-of : {b row : List ℕ} (s : State) → b ≡ write s → Proper s → (i u k d : ℕ) → Draws b i u k row d s → Draws b i u k row d (read b)
+draws-of {b} {row} s e p i u k d a = subst (Draws b i u k row d) (sym (reads-as b s e p)) a
 
 -- after its rise, a vertex's row holds exactly its neighbours below the level
 lift-row : (s : State) → Proper s → Ordered s → (i u : ℕ) → u < s .n → s .rank u ≤ i → RowBelow i u (rise i u (part u s))
@@ -77,18 +77,19 @@ module _ {bs : List ℕ} {i v : ℕ} (a : Rising bs i v) {b : List ℕ} where
   lifted-held e = held-of b (rise i v (part v (read bs))) e (lifted-kept a .proper)
 
   -- v draws next
-  pub lifted-draws : b ≡ write (rise i v (part v (read bs))) → {row waiting : List ℕ} (d : ℕ) → 1 ≤ below (read bs) v i → Waiting row (read bs)
-      → waiting ≡ noted (read bs) row v → d ≤ 1000000 → Draws b i v waiting d (read b)
-  lifted-draws e {row} d n w f x =
+  pub lifted-draws : b ≡ write (rise i v (part v (read bs))) → {row waiting : List ℕ} (k d : ℕ) → 1 ≤ below (read bs) v i → Waiting row (read bs)
+      → waiting ≡ noted (read bs) row v → d ≤ 1000000 → k ≡ degreeAt b v → Draws b i v k waiting d (read b)
+  lifted-draws e {row} k d n w f x g =
       let s : State = rise i v (part v (read bs)) in
-      draws-of s e (lifted-kept a .proper) i v d (
+      draws-of s e (lifted-kept a .proper) i v k d (
         (lifted-held e, lifted-kept a .ordered),
         (
-          (omega (arith, lifted-kept a .size, a .inside), lift-is i v (read bs) .rank-w, a .level),
+          (omega (arith, lifted-kept a .size, a .inside), a .level),
           (
             (
               lift-row (read bs) (a .held .proper) (a .ordered) i v (a .inside) (a .low),
               omega (arith, lift-below (read bs) (a .held .proper) (a .ordered) i v (a .inside)),
+              g,
             ),
             (subst (λ (y : List ℕ). WaitingBut v y s) (sym f) (waits-risen (read bs) (a .held .proper) row i v (a .inside) w), x),
           ),

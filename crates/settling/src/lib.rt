@@ -7,6 +7,7 @@ ghost use lib.ListN.{length, getD};
 ghost use Rattle.model.specs.State.{base, near, below};
 ghost use Rattle.model.specs.Bytes.{read, write};
 ghost use Rattle.model.specs.Moves.{part as parted, rise as risen, chosen, draw as drawn, promote as promoted, scanFrom, take as taken, pick as picked, settle as settled};
+ghost use Rattle.layout.specs.Rows.{degreeAt};
 ghost use Rattle.moves.specs.Proper.{Ordered, Held, RowBelow};
 ghost use Rattle.settling.specs.Runs.{running, WaitingBut, Waiting, noted, Room, Left, visited, foundBy};
 
@@ -75,13 +76,12 @@ pub fn note_mate(rack: &[u8], waiting: &mut [u8], v: usize)
     bitset::insert(waiting, m as usize);
 }
 
-// The vertex that the next word draws: u's row holds its neighbours below level i, and trailing zeros lead to the place in it.
-fn choose(rack: &[u8], words: &[u32], u: usize, i: usize, tally: Tally) -> usize
+// The vertex that the next word draws: u's row holds its neighbours below level i, k of them, and trailing zeros lead to the place in it.
+fn choose(rack: &[u8], words: &[u32], u: usize, i: usize, k: usize, tally: Tally) -> usize
     requires { ⌜ Held (now rack) ⌝ }
-    requires { ⌜ (u < read (now rack) .n) × (RowBelow i u (read (now rack))) × (1 ≤ below (read (now rack)) u i) ⌝ }
+    requires { ⌜ (u < read (now rack) .n) × (RowBelow i u (read (now rack))) × (1 ≤ below (read (now rack)) u i) × (k ≡ degreeAt (now rack) u) ⌝ }
     ensures { λ r. ⌜ (r ≡ chosen (now (words .entry)) i u (running (now (rack .entry)) tally)) × (T (near (read (now (rack .entry))) u i r)) ⌝ }
 {
-    let k = layout::degree(rack, u);
     let word = word_at(words, tally.draws as usize);
     layout::nth_owned(rack, u, word as usize % k)
 }
@@ -98,22 +98,23 @@ fn lift(rack: &mut [u8], waiting: &mut [u8], v: usize, i: usize)
     moves::rise(rack, v, i);
 }
 
-// "Draw at u, level i", once u's row holds exactly its neighbours below i.
-pub fn draw(
+// "Draw at u, level i", once u's row holds exactly its neighbours below i, k of them.
+fn draw(
     rack: &mut [u8],
     waiting: &mut [u8],
     words: &[u32],
     u: usize,
     i: usize,
+    k: usize,
     tally: Tally,
 ) -> Tally
     requires { ⌜ (Held (now rack)) × (Ordered (read (now rack))) ⌝ }
-    requires { ⌜ (u < read (now rack) .n) × (read (now rack) .rank u ≡ suc i) × (i ≤ base .top) ⌝ }
-    requires { ⌜ (RowBelow i u (read (now rack))) × (1 ≤ below (read (now rack)) u i) ⌝ }
+    requires { ⌜ (u < read (now rack) .n) × (i ≤ base .top) ⌝ }
+    requires { ⌜ (RowBelow i u (read (now rack))) × (1 ≤ below (read (now rack)) u i) × (k ≡ degreeAt (now rack) u) ⌝ }
     requires { ⌜ (WaitingBut u (now waiting) (read (now rack))) × (tally .draws ≤ 1000000) ⌝ }
     ensures { λ r. ⌜ Left (drawn (now (words .entry)) i u (running (now (rack .entry)) tally)) (now (rack .exit)) (now (waiting .exit)) r ⌝ }
 {
-    let y = choose(rack, words, u, i, tally);
+    let y = choose(rack, words, u, i, k, tally);
     lift(rack, waiting, y, i);
     moves::marry(rack, u, y);
     tally.drew()
@@ -134,7 +135,8 @@ pub fn promote(
     ensures { λ r. ⌜ Left (promoted (now (words .entry)) i u (running (now (rack .entry)) tally)) (now (rack .exit)) (now (waiting .exit)) r ⌝ }
 {
     lift(rack, waiting, u, i);
-    draw(rack, waiting, words, u, i, tally)
+    let k = layout::degree(rack, u);
+    draw(rack, waiting, words, u, i, k, tally)
 }
 
 // A vertex's turn in the scan: "each one that is below i with a count at i of at least 4^i" is promoted.
@@ -200,10 +202,11 @@ fn take(
     ensures { λ r. ⌜ Left (taken base (now (words .entry)) i v (running (now (rack .entry)) tally)) (now (rack .exit)) (now (waiting .exit)) r ⌝ }
 {
     moves::hand_over(rack, v, i);
-    if layout::threshold(i) as usize <= layout::degree(rack, v) {
-        return draw(rack, waiting, words, v, i, tally);
+    let k = layout::degree(rack, v);
+    if layout::threshold(i) as usize <= k {
+        return draw(rack, waiting, words, v, i, k, tally);
     }
-    moves::fall(rack, v, i);
+    moves::fall(rack, v, i, k);
     scan(rack, waiting, words, v, i, tally.fell())
 }
 

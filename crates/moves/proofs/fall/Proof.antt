@@ -2,7 +2,7 @@
 -- nothing.
 use mathlib.Core.Path.{_≡_, ap, ap₂, _∙_}
 use mathlib.Core.List.{List}
-use Prim.Native.Nat.{ℕ}
+use Prim.Native.Nat.{ℕ, _<_}
 use native.Mathlib.Omega.{arith}
 use borrow.Author.Needs.{needs}
 use Rattle.model.specs.State.{base}
@@ -14,30 +14,25 @@ use Rattle.moves.proofs.RankSteps.{fall-bytes, fall-fits}
 use Rattle.moves.proofs.fall.Statement.{statement}
 use Rattle.moves.proofs.fall.Tie as tie
 
-degree-requires : tie.Need-degree-requires
-degree-requires c κs =
-    let p = c .before .before .pre in
-    (held-sized (p .0), held-small (p .0) (c .before .before .args .v) (p .1 .0 .0))
+-- the figure is the number of edges that v owns, and fits a byte
+owned : (c : tie.Start) → let s = read (c .args .rack .now) in (c .args .k ≡ count (s .owns (c .args .v)) (s .n)) × (c .args .k < 256)
+owned c =
+    let a = c .args in
+    let p = c .pre in
+    let k = p .1 .1 .1 ∙ held-degree (p .0) (a .v) (held-small (p .0) (a .v) (p .1 .0 .0)) in
+    (k, omega (arith, k, fall-fits (read (a .rack .now)) (p .0 .proper) (a .i) (a .v) (p .1 .0 .0) (p .1 .0 .2) (p .1 .1 .0) (p .1 .0 .1)))
 
 raise-counts-requires : tie.Need-raise-counts-requires
-raise-counts-requires c κs = c .before .before .before .before .pre
+raise-counts-requires c κs = let p = c .before .before .pre in (p .0, (p .1 .0, p .1 .1 .0))
 
 cast-set-phi : tie.Need-cast-set-phi
-cast-set-phi c =
-    let a = c .before .before .before .before .before .before .before .before .args in
-    let p = c .before .before .before .before .before .before .before .before .pre in
-    omega (
-      arith,
-      c .before .before .before .before .before .degree .ensures,
-      held-degree (p .0) (a .v) (held-small (p .0) (a .v) (p .1 .0 .0)),
-      fall-fits (read (a .rack .now)) (p .0 .proper) (a .i) (a .v) (p .1 .0 .0) (p .1 .0 .2) (p .1 .1) (p .1 .0 .1),
-    )
+cast-set-phi c = omega (arith, owned (c .before .before .before .before .before .before) .1)
 
 set-phi-requires : tie.Need-set-phi-requires
 unfolding base
 set-phi-requires c κs =
     let raised = c .before .before .before in
-    let p = raised .before .before .before .before .before .pre in
+    let p = raised .before .before .before .pre in
     (omega (arith, raised .raise-counts .kept .0, held-sized (p .0)), (held-small (p .0) _ (p .1 .0 .0), omega arith))
 
 cast-set-rank : tie.Need-cast-set-rank
@@ -48,7 +43,7 @@ set-rank-requires : tie.Need-set-rank-requires
 set-rank-requires c κs =
     let counted = c .before .before .before in
     let raised = counted .before .before .before .before in
-    let p = raised .before .before .before .before .before .pre in
+    let p = raised .before .before .before .pre in
     (omega (arith, counted .set-phi .kept .0, raised .raise-counts .kept .0, held-sized (p .0)), held-small (p .0) _ (p .1 .0 .0))
 
 same-length : tie.Need-same-length
@@ -59,22 +54,19 @@ returns c =
     let ended = c .before .before in
     let counted = ended .before .before .before .before in
     let raised = counted .before .before .before .before in
-    let sized = raised .before .before in
-    let a = sized .before .before .before .args in
-    let p = sized .before .before .before .pre in
+    let start = raised .before .before .before in
+    let a = start .args in
+    let p = start .pre in
     let s = read (a .rack .now) in
-    let k : sized .degree .result ≡ count (s .owns (a .v)) (s .n) =
-    sized .degree .ensures ∙ held-degree (p .0) (a .v) (held-small (p .0) (a .v) (p .1 .0 .0)) in
     let last : List ℕ → ℕ → List ℕ = λ bs x. setRank (setPhi bs (a .v) (a .i) x) (a .v) (a .i) in
     ended .set-rank .ensures ∙ ap (λ (bs : List ℕ). setRank bs (a .v) (a .i)) (counted .set-phi .ensures)
-    ∙ ap₂ last (raised .raise-counts .ensures) k
-    ∙ fall-bytes s (p .0 .proper) (a .i) (a .v) (p .1 .0 .0) (p .1 .0 .2) (p .1 .1) (p .1 .0 .1)
+    ∙ ap₂ last (raised .raise-counts .ensures) (owned start .0)
+    ∙ fall-bytes s (p .0 .proper) (a .i) (a .v) (p .1 .0 .0) (p .1 .0 .2) (p .1 .1 .0) (p .1 .0 .1)
 
 pub fall-spec : {M : Type 1} → statement M
 fall-spec =
     tie.close
     (tie.spec
-    degree-requires
     raise-counts-requires
     cast-set-phi
     set-phi-requires

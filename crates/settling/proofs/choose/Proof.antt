@@ -10,9 +10,6 @@ use Rattle.settling.proofs.Entries.{row-degree, row-chosen}
 use Rattle.settling.proofs.choose.Statement.{statement}
 use Rattle.settling.proofs.choose.Tie as tie
 
-degree-requires : tie.Need-degree-requires
-degree-requires c κs = let p = c .before .before .pre in (held-sized (p .0), held-small (p .0) _ (p .1 .0))
-
 cast-word-at : tie.Need-cast-word-at
 cast-word-at c = search needs
 
@@ -23,39 +20,32 @@ cast-nth-owned : tie.Need-cast-nth-owned
 cast-nth-owned c = search needs
 
 -- there is a vertex to choose
-some : (c : tie.After-word-at) → 0 < c .before .before .degree .result
+some : (c : tie.Start) → 0 < c .args .k
 some c =
-    let a = c .before .before .before .before .before .args in
-    let p = c .before .before .before .before .before .pre in
-    omega (arith, c .before .before .degree .ensures, row-degree (a .rack .now) (p .0) (a .i) (a .u) (p .1 .0) (p .1 .1), p .1 .2)
+    let a = c .args in
+    let p = c .pre in
+    omega (arith, p .1 .3, row-degree (a .rack .now) (p .0) (a .i) (a .u) (p .1 .0) (p .1 .1), p .1 .2)
 
 rem-nth-owned : tie.Need-rem-nth-owned
-rem-nth-owned c = some c
+rem-nth-owned c = some (c .before .before .before .before)
 
 nth-owned-requires : tie.Need-nth-owned-requires
 nth-owned-requires c κs =
-    let p = c .before .before .before .before .before .pre in (
-      held-sized (p .0),
-      (
-        held-small (p .0) _ (p .1 .0),
-        subst (λ (k : ℕ). c .word-at .result % c .before .before .degree .result < k) (c .before .before .degree .ensures) (mod-lt _ (some c)),
-      ),
-    )
+    let s = c .before .before .before .before in
+    let p = s .pre in
+    (held-sized (p .0), (held-small (p .0) _ (p .1 .0), subst (λ (k : ℕ). c .word-at .result % s .args .k < k) (p .1 .3) (mod-lt _ (some s))))
 
 returns : tie.Need-returns
 returns c =
-    let a = c .before .before .before .before .before .before .args in
-    let p = c .before .before .before .before .before .before .pre in
-    row-chosen (a .rack .now) (p .0) (a .i) (a .u) (p .1 .0) (p .1 .1) (a .words .now) (a .tally)
-    (c .before .before .before .degree .result) (c .nth-owned .result) (c .before .before .before .degree .ensures)
-    (subst (λ (x : ℕ). NthOwned (a .rack .now) (a .u) (x % c .before .before .before .degree .result) (c .nth-owned .result))
-    (c .before .word-at .ensures) (c .nth-owned .ensures))
+    let a = c .before .before .before .before .before .args in
+    let p = c .before .before .before .before .before .pre in
+    row-chosen (a .rack .now) (p .0) (a .i) (a .u) (p .1 .0) (p .1 .1) (a .words .now) (a .tally) (a .k) (c .nth-owned .result) (p .1 .3)
+    (subst (λ (x : ℕ). NthOwned (a .rack .now) (a .u) (x % a .k) (c .nth-owned .result)) (c .before .word-at .ensures) (c .nth-owned .ensures))
 
 pub choose-spec : {M : Type 1} → statement M
 choose-spec =
     tie.close
     (tie.spec
-    degree-requires
     cast-word-at
     word-at-requires
     cast-nth-owned

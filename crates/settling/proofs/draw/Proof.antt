@@ -8,7 +8,7 @@ abbrev start : tie.After-choose → tie.Start
 start c = c .before .before .before .before .before
 
 drawing : (c : tie.After-choose) → Drawing (start c .args .rack .now) (start c .args .i) (start c .args .u) (c .choose .result)
-drawing c = let s = start c in drawing-of (s .pre .0 .0) (s .pre .0 .1) (s .pre .1 .0 .0) (s .pre .1 .0 .2) (c .choose .ensures .1)
+drawing c = let s = start c in drawing-of (s .pre .0 .0) (s .pre .0 .1) (s .pre .1 .0 .0) (s .pre .1 .0 .1) (c .choose .ensures .1)
 
 choose-requires : tie.Need-choose-requires
 choose-requires c κs = search needs

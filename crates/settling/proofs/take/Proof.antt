@@ -24,16 +24,16 @@ handed c = let s = start c in record {
 }
 
 -- what the test says of the row
-abbrev after : tie.After-degree → tie.After-hand-over
+abbrev after : tie.After-threshold → tie.After-hand-over
 after c = c .before .before .before .before .before
 
 enough : (c : tie.Then1)
     → base .thr (start (after (c .before)) .args .i) ≤ degreeAt (after (c .before) .hand-over .last .0) (start (after (c .before)) .args .v)
-enough c = omega (arith, c .if1 .taken, c .before .degree .ensures, c .before .before .before .threshold .ensures)
+enough c = omega (arith, c .if1 .taken, c .before .before .degree .ensures, c .before .threshold .ensures)
 
 few : (c : tie.Else1)
     → degreeAt (after (c .before) .hand-over .last .0) (start (after (c .before)) .args .v) < base .thr (start (after (c .before)) .args .i)
-few c = omega (arith, c .if1 .left, c .before .degree .ensures, c .before .before .before .threshold .ensures)
+few c = omega (arith, c .if1 .left, c .before .before .degree .ensures, c .before .threshold .ensures)
 
 hand-over-requires : tie.Need-hand-over-requires
 hand-over-requires c κs = search needs
@@ -45,13 +45,15 @@ cast-if1 : tie.Need-cast-if1
 cast-if1 c = search needs
 
 degree-requires : tie.Need-degree-requires
-degree-requires c κs = let a = handed (c .before .before .before .before) in (held-sized (handed-held a), held-small (a .held) _ (a .inside))
+degree-requires c κs = let a = handed (c .before .before .before) in (held-sized (handed-held a), held-small (a .held) _ (a .inside))
 
 draw-requires : tie.Need-draw-requires
 draw-requires c κs =
     let t = c .before .before in
     let s = start (after (t .before)) in
-    handed-draws (handed (after (t .before))) (s .args .tally .draws) (enough t) (s .pre .1 .1 .0) (omega (arith, s .pre .1 .1 .1 .draws))
+    let d = t .before .before .degree in
+    handed-draws (handed (after (t .before))) (d .result) (s .args .tally .draws) (d .ensures) (enough t) (s .pre .1 .1 .0)
+    (omega (arith, s .pre .1 .1 .1 .draws))
 
 same-length : tie.Need-same-length
 same-length c = search needs
@@ -67,7 +69,8 @@ returns c =
     taken-draws (handed (after (t .before))) (s .args .words .now) (s .args .tally) (enough t) (d .draw .ensures)
 
 fall-requires : tie.Need-fall-requires
-fall-requires c κs = handed-falls (handed (after (c .before .before)))
+fall-requires c κs =
+    let f = handed-falls (handed (after (c .before .before))) in (f .0, (f .1 .0, (f .1 .1, c .before .before .before .degree .ensures)))
 
 fell-requires : tie.Need-fell-requires
 fell-requires c κs = search needs
@@ -98,9 +101,9 @@ take-spec =
     tie.close
     (tie.spec
     hand-over-requires
+    degree-requires
     threshold-requires
     cast-if1
-    degree-requires
     draw-requires
     same-length
     same-length-2
