@@ -12,7 +12,7 @@ use Rattle.model.specs.Counting.{bit, count}
 use Rattle.model.specs.State.{State, edge, near, below, phi}
 use Rattle.model.specs.Bytes.{rankAt, ownsAt, image, write}
 use Rattle.model.specs.Moves.{ownedBy}
-use Rattle.model.proofs.Tests.{holds?, T-true, T-false, leb-yes, and-intro, and-left, and-right, or-cases, or-left, or-right}
+use Rattle.model.proofs.Tests.{holds?, le?, T-true, T-false, leb-yes, and-intro, and-left, and-right, or-cases, or-left, or-right}
 use Rattle.model.proofs.Counting.{sum-eq, sum-add, bit-yes, bit-no}
 use Rattle.model.proofs.Prefix.{count-zero, count-suc, count-mono, count-step}
 use Rattle.model.proofs.Fields.{image-length, rank-image, owns-image}
@@ -181,22 +181,22 @@ module _ {s : State} {i u : ℕ} (q : Riser s i u) where
             within = h;
           }
 
-    -- once nothing is missing, or every vertex is done
-    taking-all : ((x : ℕ) → k ≤ x → x < s .n → T (owed s i u x) → ⊥) → bs ≡ write (tookOver i u s)
+    -- while an edge is missing, not every vertex is done
+    pub taking-inside : 0 < missing → k < s .n
+    taking-inside h = elim (le? (s .n) k) [
+      | inl g ↦
+          let e : k ≡ s .n = omega (arith, t .within) in
+          absurd (omega (arith, t .left, ap (count (owed s i u)) e))
+      | inr g ↦ omega arith
+    ]
+
+    -- once nothing is missing
+    pub taking-none : missing ≡ 0 → bs ≡ write (tookOver i u s)
     unfolding takenTo tookOver
-    taking-all f =
+    taking-none e =
+        let none : (x : ℕ) → k ≤ x → x < s .n → T (owed s i u x) → ⊥ =
+        λ x a b o. omega (arith, t .left, count-mono (owed s i u) k x a, count-step (owed s i u) x (s .n) o b) in
         t .given ∙ ap (λ (o : ℕ → ℕ → Bool). image (ownersOf s o))
-        (owned-skip u (owed s i u) true (s .owns) self-not k (s .n) (t .within) f
+        (owned-skip u (owed s i u) true (s .owns) self-not k (s .n) (t .within) none
         ∙ owned-all u (owed s i u) true (s .owns) self-not (s .n) (λ x o. q .proper .inside x u (owed-owns x o) .0) ∙ taken-all)
         ∙ owners-write s (ownedBy u (near s u i) true (s .owns)) (λ x y. took-edge s (q .proper) i u x y)
-
-    pub taking-none : missing ≡ 0 → bs ≡ write (tookOver i u s)
-    taking-none e = taking-all (λ x a b o. omega (
-      arith,
-      t .left,
-      count-mono (owed s i u) k x a,
-      count-step (owed s i u) x (s .n) o b,
-    ))
-
-    pub taking-end : s .n ≤ k → bs ≡ write (tookOver i u s)
-    taking-end h = taking-all (λ x a b o. omega arith)

@@ -47,20 +47,16 @@ fn pass(rack: &mut [u8], v: usize, w: usize)
 }
 
 // u takes every edge to a vertex below level i: the first half of a rise. Its count at i less the edges that it owns already says how many
-// owners are still to be found.
+// owners are still to be found, so that the walk needs no other end.
 fn take_over(rack: &mut [u8], u: usize, i: usize)
     requires { ⌜ Held (now rack) ⌝ }
     requires { ⌜ (u < read (now rack) .n) × (read (now rack) .rank u ≤ i) × (i ≤ base .top) ⌝ }
     requires { ⌜ ((w : ℕ) → T (read (now rack) .owns u w) → read (now rack) .rank w ≤ i) ⌝ }
     ensures { λ _. ⌜ now (rack .exit) ≡ write (tookOver i u (read (now (rack .entry)))) ⌝ }
 {
-    let n = layout::size(rack);
     let mut missing = layout::phi(rack, u, i) as usize - layout::degree(rack, u);
     let mut w = 0;
-    while w < n {
-        if missing == 0 {
-            return;
-        }
+    while 0 < missing {
         if layout::owns(rack, w, u) {
             if layout::rank(rack, w) as usize <= i {
                 pass(rack, w, u);
