@@ -60,7 +60,7 @@ counted c =
 
 -- in a turn an edge is missing, so w is one of the vertices
 inside : (c : tie.In-loop Inv-loop μ-loop) → c .before .loop .w < state (entry (c .before)) .n
-inside c = taking-inside (riser (entry (c .before))) (c .before .loop .inv) (c .loop-test .taken)
+inside c = taking-inside (riser (entry (c .before))) (c .before .loop .inv) (omega (arith, c .loop-test .taken))
 
 w-small : (c : tie.In-loop Inv-loop μ-loop) → c .before .loop .w < 256
 w-small c = held-small (entry (c .before) .pre .0) (c .before .loop .w) (inside c)
