@@ -1,10 +1,12 @@
-// The reader of a trace: it holds the text and remembers how far it got.
+// The reader of a trace: it holds the text and remembers how far it got. No loop can hold one, so the functions below it with plain
+// parameters serve the loops, which hold the place.
 use lines::ChangeRead;
 use lines::RackRead;
 ghost use mathlib.Core.Path.{_≡_};
 ghost use Prim.Native.Nat.{_≤_};
 ghost use lib.ListN.{length};
 ghost use Rattle.lines.specs.Contracts.{RackAt, ChangeAt};
+ghost use Rattle.reader.specs.Place.{pastRack, pastLine};
 
 pub struct Reader<'a> {
     pub text: &'a [u8],
@@ -18,26 +20,53 @@ pub fn opened<'a>(text: &'a [u8], at: usize) -> Reader<'a>
     Reader { text, at }
 }
 
-// Line 1 where the reader stands.
-pub fn first_line<'a>(r: Reader<'a>) -> RackRead
-    ensures { λ q. ⌜ RackAt (now (r .entry .text)) (r .entry .at) q ⌝ }
+// The place after line 1, or `at` if it was not read.
+fn past_rack(at: usize, read: RackRead) -> usize
+    ensures { λ r. ⌜ r ≡ pastRack at read ⌝ }
 {
-    lines::rack_at(r.text, r.at)
+    match read {
+        RackRead::Rack(_, next) => next,
+        RackRead::NoRack => at,
+    }
 }
 
-// The line of a change where the reader stands; its words go to the first places of `words`.
-pub fn next_line<'a, 'w>(r: Reader<'a>, words: &'w mut [u32]) -> ChangeRead
-    requires { ⌜ 128 ≤ length (now words) ⌝ }
-    ensures { λ q. ⌜ ChangeAt (now (r .entry .text)) (r .entry .at) (now (words .exit)) q ⌝ }
+// The place after a change's line, or `at` if it was not read.
+fn past_line(at: usize, read: ChangeRead) -> usize
+    ensures { λ r. ⌜ r ≡ pastLine at read ⌝ }
 {
-    lines::change_at(r.text, r.at, words)
+    match read {
+        ChangeRead::Line(_, _, _, _, next) => next,
+        ChangeRead::NoLine => at,
+    }
+}
+
+// Line 1 where the reader stands, which moves on past it.
+pub fn first_line<'s, 'a>(r: &'s mut Reader<'a>) -> RackRead
+    ensures { λ q. ⌜ RackAt (now (now (r .entry) .text)) (now (r .entry) .at) q × (now (r .exit) .text ≡ now (r .entry) .text) × (now (r .exit) .at ≡ pastRack (now (r .entry) .at) q) ⌝ }
+{
+    let at = r.at;
+    let read = lines::rack_at(r.text, at);
+    r.at = past_rack(at, read);
+    read
+}
+
+// The line of a change where the reader stands, which moves on past it; its words go to the first places of `words`.
+pub fn next_line<'s, 'a, 'w>(r: &'s mut Reader<'a>, words: &'w mut [u32]) -> ChangeRead
+    requires { ⌜ 128 ≤ length (now words) ⌝ }
+    ensures { λ q. ⌜ ChangeAt (now (now (r .entry) .text)) (now (r .entry) .at) (now (words .exit)) q × (now (r .exit) .text ≡ now (r .entry) .text) × (now (r .exit) .at ≡ pastLine (now (r .entry) .at) q) ⌝ }
+{
+    let at = r.at;
+    let read = lines::change_at(r.text, at, words);
+    r.at = past_line(at, read);
+    read
 }
 
 // Line 1 at a position of a text, through a reader.
 pub fn rack_from(text: &[u8], at: usize) -> RackRead
     ensures { λ r. ⌜ RackAt (now (text .entry)) at r ⌝ }
 {
-    first_line(opened(text, at))
+    let mut r = opened(text, at);
+    first_line(&mut r)
 }
 
 // The line of a change at a position of a text, through a reader.
@@ -45,5 +74,6 @@ pub fn change_from(text: &[u8], at: usize, words: &mut [u32]) -> ChangeRead
     requires { ⌜ 128 ≤ length (now words) ⌝ }
     ensures { λ r. ⌜ ChangeAt (now (text .entry)) at (now (words .exit)) r ⌝ }
 {
-    next_line(opened(text, at), words)
+    let mut r = opened(text, at);
+    next_line(&mut r, words)
 }

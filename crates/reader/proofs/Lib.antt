@@ -1,0 +1,2 @@
+-- A reader in a local, lent.
+pub mod Lent
