@@ -93,7 +93,8 @@ fn put_changes(rack: &mut [u8], text: &[u8], from: usize, out: &mut [u8]) -> usi
     let mut i = from;
     let mut at = 0;
     while i < text.len() {
-        let ChangeRead::Line(code, a, b, count, next) = lines::change_at(text, i, &mut words) else {
+        let ChangeRead::Line(code, a, b, count, next) = reader::change_from(text, i, &mut words)
+        else {
             return at;
         };
         let k = put_change(rack, code, a, b, &words[..count], &mut out[at..]);

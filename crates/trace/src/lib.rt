@@ -13,14 +13,14 @@ pub enum Checked {
 pub fn check(text: &[u8]) -> Checked
     ensures { λ r. ⌜ Checks (now (text .entry)) r ⌝ }
 {
-    let RackRead::Rack(n, first) = lines::rack_at(text, 0) else {
+    let RackRead::Rack(n, first) = reader::rack_from(text, 0) else {
         return Checked::Bad(1);
     };
     let mut words = [0u32; 128];
     let mut i = first;
     let mut line: usize = 2;
     while i < text.len() {
-        let ChangeRead::Line(_, _, _, _, next) = lines::change_at(text, i, &mut words) else {
+        let ChangeRead::Line(_, _, _, _, next) = reader::change_from(text, i, &mut words) else {
             return Checked::Bad(line);
         };
         i = next;

@@ -25,11 +25,11 @@ loop-holds c =
     let p = c .before .before .before .pre in
     (p .1 .within, refl, going-start _ _ _ _ (p .0) (p .1))
 
-slice-aggregate-change-at : tie.Need-slice-aggregate-change-at Inv-loop μ-loop
-slice-aggregate-change-at c = search needs
+slice-aggregate-change-from : tie.Need-slice-aggregate-change-from Inv-loop μ-loop
+slice-aggregate-change-from c = search needs
 
-change-at-requires : tie.Need-change-at-requires Inv-loop μ-loop
-change-at-requires c κs = omega (arith, c .before .before .loop .inv .1)
+change-from-requires : tie.Need-change-from-requires Inv-loop μ-loop
+change-from-requires c κs = omega (arith, c .before .before .loop .inv .1)
 
 enum-known-code : tie.Need-enum-known-code Inv-loop μ-loop
 enum-known-code c = search needs
@@ -39,7 +39,7 @@ enum-told c = search needs
 
 -- the reader refuses no change of a text that fits
 never : (c : tie.After-enum-told Inv-loop μ-loop) → ⊥
-never c = going-never (c .before .before .before .before .before .before .loop .inv .2) (c .before .before .before .before .before .loop-test .taken) (subst (ChangeAt _ _ _) (c .enum-told .given .1) (c .before .before .before .change-at .ensures))
+never c = going-never (c .before .before .before .before .before .before .loop .inv .2) (c .before .before .before .before .before .loop-test .taken) (subst (ChangeAt _ _ _) (c .enum-told .given .1) (c .before .before .before .change-from .ensures))
 
 same-length : tie.Need-same-length Inv-loop μ-loop
 same-length c = absurd (never c)
@@ -52,8 +52,8 @@ returns c = absurd (never c)
 
 -- the line that was read
 line : (c : tie.After-known-told Inv-loop μ-loop)
-    → ChangeAt (c .before .before .before .before .before .before .before .before .before .before .before .args .text .now) (c .before .before .before .before .before .before .before .loop .i) (c .before .before .before .before .change-at .last .1 .1 .0) (Line (c .before .code .given .0 .0) (c .before .code .given .0 .1 .0) (c .before .code .given .0 .1 .1 .0) (c .before .code .given .0 .1 .1 .1 .0) (c .before .code .given .0 .1 .1 .1 .1 .0))
-line c = subst (ChangeAt _ _ _) (c .before .code .given .1) (c .before .before .before .before .change-at .ensures)
+    → ChangeAt (c .before .before .before .before .before .before .before .before .before .before .before .args .text .now) (c .before .before .before .before .before .before .before .loop .i) (c .before .before .before .before .change-from .last .1 .1 .0) (Line (c .before .code .given .0 .0) (c .before .code .given .0 .1 .0) (c .before .code .given .0 .1 .1 .0) (c .before .code .given .0 .1 .1 .1 .0) (c .before .code .given .0 .1 .1 .1 .1 .0))
+line c = subst (ChangeAt _ _ _) (c .before .code .given .1) (c .before .before .before .before .change-from .ensures)
 
 -- there is room for its answer and for what comes after
 room : (c : tie.After-known-told Inv-loop μ-loop) → c .before .before .before .before .before .before .before .loop .at + 64 ≤ length (c .before .before .before .before .before .before .before .loop .out)
@@ -63,10 +63,10 @@ room c =
     omega (arith, r, put-kept (g .wrote) (omega (arith, r)))
 
 array-share-prefix-words : tie.Need-array-share-prefix-words Inv-loop μ-loop
-array-share-prefix-words c = omega (arith, line (c .before) .0, c .before .before .before .before .before .change-at .kept .1 .1 .0, c .before .before .before .before .before .before .before .before .loop .inv .1)
+array-share-prefix-words c = omega (arith, line (c .before) .0, c .before .before .before .before .before .change-from .kept .1 .1 .0, c .before .before .before .before .before .before .before .before .loop .inv .1)
 
 slice-aggregate-put-change : tie.Need-slice-aggregate-put-change Inv-loop μ-loop
-slice-aggregate-put-change c = simp length-take (omega (arith, line (c .before .before) .0, c .before .before .before .before .before .before .change-at .kept .1 .1 .0, c .before .before .before .before .before .before .before .before .before .loop .inv .1))
+slice-aggregate-put-change c = simp length-take (omega (arith, line (c .before .before) .0, c .before .before .before .before .before .before .change-from .kept .1 .1 .0, c .before .before .before .before .before .before .before .before .before .loop .inv .1))
 
 sub-put-change : tie.Need-sub-put-change Inv-loop μ-loop
 sub-put-change c = omega (arith, room (c .before .before))
@@ -96,7 +96,7 @@ loop-less : tie.Need-loop-less Inv-loop μ-loop
 loop-less c = let f = line (c .before .before .before .before .before .before .before .before) .1 in omega (arith, further f, f .within)
 
 loop-again : tie.Need-loop-again Inv-loop μ-loop
-loop-again c = (line (c .before .before .before .before .before .before .before .before) .1 .within, c .before .before .before .before .before .before .before .before .before .before .before .before .change-at .kept .1 .1 .0 ∙ c .before .before .before .before .before .before .before .before .before .before .before .before .before .before .before .loop .inv .1, next c)
+loop-again c = (line (c .before .before .before .before .before .before .before .before) .1 .within, c .before .before .before .before .before .before .before .before .before .before .before .before .change-from .kept .1 .1 .0 ∙ c .before .before .before .before .before .before .before .before .before .before .before .before .before .before .before .loop .inv .1, next c)
 
 -- there is room for the ending
 space : (c : tie.After-put-ending-arg Inv-loop μ-loop) → c .before .before .loop .at + 12825 ≤ length (c .before .before .loop .out)
@@ -143,8 +143,8 @@ put-changes-spec =
     Inv-loop
     μ-loop
     loop-holds
-    slice-aggregate-change-at
-    change-at-requires
+    slice-aggregate-change-from
+    change-from-requires
     enum-known-code
     enum-told
     same-length

@@ -29,8 +29,8 @@ Inv-loop text n first words₀ i₀ line₀ words i line = (i ≤ length text) �
 abbrev μ-loop : tie.MeasureT-loop
 μ-loop text n first words₀ i₀ line₀ words i line = length text - i
 
-rack-at-requires : tie.Need-rack-at-requires Inv-loop μ-loop
-rack-at-requires c κs = search needs
+rack-from-requires : tie.Need-rack-from-requires Inv-loop μ-loop
+rack-from-requires c κs = search needs
 
 enum-known-n : tie.Need-enum-known-n Inv-loop μ-loop
 enum-known-n c = search needs
@@ -39,12 +39,12 @@ enum-told : tie.Need-enum-told Inv-loop μ-loop
 enum-told c = search needs
 
 returns : tie.Need-returns Inv-loop μ-loop
-returns c = bad-rack (c .before .before .before .before .args .text .now) (λ n rest g e. subst (RackAt _ _) (c .enum-told .given .1) (c .before .before .rack-at .ensures) n rest g e)
+returns c = bad-rack (c .before .before .before .before .args .text .now) (λ n rest g e. subst (RackAt _ _) (c .enum-told .given .1) (c .before .before .rack-from .ensures) n rest g e)
 
 -- what each reading says where it succeeded, at the place just after it
 rack : (c : tie.After-known-told Inv-loop μ-loop)
     → RackAt (c .before .before .before .before .before .args .text .now) 0 (Rack (c .before .n .given .0 .0) (c .before .n .given .0 .1 .0))
-rack c = subst (RackAt _ _) (c .before .n .given .1) (c .before .before .before .rack-at .ensures)
+rack c = subst (RackAt _ _) (c .before .n .given .1) (c .before .before .before .rack-from .ensures)
 
 loop-holds : tie.Need-loop-holds Inv-loop μ-loop
 unfolding texts
@@ -52,11 +52,11 @@ loop-holds c =
     let r = rack c in
     (r .within, refl, r .good, omega arith, ([], tt, r .stands, omega arith))
 
-slice-aggregate-change-at : tie.Need-slice-aggregate-change-at Inv-loop μ-loop
-slice-aggregate-change-at c = search needs
+slice-aggregate-change-from : tie.Need-slice-aggregate-change-from Inv-loop μ-loop
+slice-aggregate-change-from c = search needs
 
-change-at-requires : tie.Need-change-at-requires Inv-loop μ-loop
-change-at-requires c κs = omega arith
+change-from-requires : tie.Need-change-from-requires Inv-loop μ-loop
+change-from-requires c κs = omega arith
 
 enum-known-next : tie.Need-enum-known-next Inv-loop μ-loop
 enum-known-next c = search needs
@@ -69,19 +69,19 @@ returns-2 c =
     let a = c .before .before .before .before .before .before .before .before .before .before .before .before .args in
     let l = c .before .before .before .before .before .before .loop in
     let (cs, small, stands, count) = l .inv .4 in
-    let refused = subst (ChangeAt _ _ _) (c .enum-told2 .given .1) (c .before .before .before .change-at .ensures) in
+    let refused = subst (ChangeAt _ _ _) (c .enum-told2 .given .1) (c .before .before .before .change-from .ensures) in
     subst (FirstBad (linesOf (a .text .now))) (sym count) (bad-change (a .text .now) (c .before .before .before .before .before .before .before .before .n .given .0 .0) cs (drop (l .i) (a .text .now)) (l .inv .2) small stands (omega (arith, length-drop (l .i) (a .text .now))) refused)
 
 add-line : tie.Need-add-line Inv-loop μ-loop
 add-line c = omega arith
 
 change : (c : tie.After-known-told2 Inv-loop μ-loop)
-    → ChangeAt (c .before .before .before .before .before .before .before .before .before .before .before .before .before .args .text .now) (c .before .before .before .before .before .before .before .loop .i) (c .before .before .before .before .change-at .last .1 .1 .0) (Line (c .before .next .given .0 .0) (c .before .next .given .0 .1 .0) (c .before .next .given .0 .1 .1 .0) (c .before .next .given .0 .1 .1 .1 .0) (c .before .next .given .0 .1 .1 .1 .1 .0))
-change c = subst (ChangeAt _ _ _) (c .before .next .given .1) (c .before .before .before .before .change-at .ensures)
+    → ChangeAt (c .before .before .before .before .before .before .before .before .before .before .before .before .before .args .text .now) (c .before .before .before .before .before .before .before .loop .i) (c .before .before .before .before .change-from .last .1 .1 .0) (Line (c .before .next .given .0 .0) (c .before .next .given .0 .1 .0) (c .before .next .given .0 .1 .1 .0) (c .before .next .given .0 .1 .1 .1 .0) (c .before .next .given .0 .1 .1 .1 .1 .0))
+change c = subst (ChangeAt _ _ _) (c .before .next .given .1) (c .before .before .before .before .change-from .ensures)
 
 -- the change of the line that was read
 abbrev the-change : tie.After-known-told2 Inv-loop μ-loop → Change
-the-change c = read (c .before .next .given .0 .0) (c .before .next .given .0 .1 .0) (c .before .next .given .0 .1 .1 .0) (c .before .next .given .0 .1 .1 .1 .0) (c .before .before .before .before .change-at .last .1 .1 .0)
+the-change c = read (c .before .next .given .0 .0) (c .before .next .given .0 .1 .0) (c .before .next .given .0 .1 .1 .0) (c .before .next .given .0 .1 .1 .1 .0) (c .before .before .before .before .change-from .last .1 .1 .0)
 
 loop-less : tie.Need-loop-less Inv-loop μ-loop
 loop-less c = omega (arith, further (change c .1), change c .1 .within)
@@ -93,7 +93,7 @@ loop-again c =
     let (cs, small, stands, count) = l .inv .4 in
     let w = change c .1 in (
       w .within,
-      c .before .before .before .before .change-at .kept .1 .1 .0 ∙ l .inv .1,
+      c .before .before .before .before .change-from .kept .1 .1 .0 ∙ l .inv .1,
       l .inv .2,
       omega (arith, further (change c .1)),
       (
@@ -119,13 +119,13 @@ check-spec =
     (tie.spec
     Inv-loop
     μ-loop
-    rack-at-requires
+    rack-from-requires
     enum-known-n
     enum-told
     returns
     loop-holds
-    slice-aggregate-change-at
-    change-at-requires
+    slice-aggregate-change-from
+    change-from-requires
     enum-known-next
     enum-told-2
     returns-2
