@@ -1,12 +1,12 @@
-// The reader of a trace: it holds the text and remembers how far it got. No loop can hold one, so the functions below it with plain
-// parameters serve the loops, which hold the place.
+// The reader of a trace: it holds the text and remembers how far it got. No covered loop can hold one, so `rack_from` and `change_from`, with
+// plain parameters, serve the loops, which hold the place.
 use lines::ChangeRead;
 use lines::RackRead;
 ghost use mathlib.Core.Path.{_≡_};
 ghost use Prim.Native.Nat.{_≤_};
 ghost use lib.ListN.{length};
 ghost use Rattle.lines.specs.Contracts.{RackAt, ChangeAt};
-ghost use Rattle.reader.specs.Place.{pastRack, pastLine};
+ghost use Rattle.reader.specs.Place.{pastRack, pastLine, Moved};
 
 pub struct Reader<'a> {
     pub text: &'a [u8],
@@ -40,9 +40,9 @@ fn past_line(at: usize, read: ChangeRead) -> usize
     }
 }
 
-// Line 1 where the reader stands, which moves on past it.
+// Reads line 1 where the reader stands, and moves the reader past it.
 pub fn first_line<'s, 'a>(r: &'s mut Reader<'a>) -> RackRead
-    ensures { λ q. ⌜ RackAt (now (now (r .entry) .text)) (now (r .entry) .at) q × (now (r .exit) .text ≡ now (r .entry) .text) × (now (r .exit) .at ≡ pastRack (now (r .entry) .at) q) ⌝ }
+    ensures { λ q. ⌜ RackAt (now (now (r .entry) .text)) (now (r .entry) .at) q × Moved (now (r .entry)) (pastRack (now (r .entry) .at) q) (now (r .exit)) ⌝ }
 {
     let at = r.at;
     let read = lines::rack_at(r.text, at);
@@ -50,10 +50,10 @@ pub fn first_line<'s, 'a>(r: &'s mut Reader<'a>) -> RackRead
     read
 }
 
-// The line of a change where the reader stands, which moves on past it; its words go to the first places of `words`.
+// Reads the line of a change where the reader stands, its words into the first places of `words`, and moves the reader past it.
 pub fn next_line<'s, 'a, 'w>(r: &'s mut Reader<'a>, words: &'w mut [u32]) -> ChangeRead
     requires { ⌜ 128 ≤ length (now words) ⌝ }
-    ensures { λ q. ⌜ ChangeAt (now (now (r .entry) .text)) (now (r .entry) .at) (now (words .exit)) q × (now (r .exit) .text ≡ now (r .entry) .text) × (now (r .exit) .at ≡ pastLine (now (r .entry) .at) q) ⌝ }
+    ensures { λ q. ⌜ ChangeAt (now (now (r .entry) .text)) (now (r .entry) .at) (now (words .exit)) q × Moved (now (r .entry)) (pastLine (now (r .entry) .at) q) (now (r .exit)) ⌝ }
 {
     let at = r.at;
     let read = lines::change_at(r.text, at, words);
@@ -61,7 +61,7 @@ pub fn next_line<'s, 'a, 'w>(r: &'s mut Reader<'a>, words: &'w mut [u32]) -> Cha
     read
 }
 
-// Line 1 at a position of a text, through a reader.
+// Line 1 at a place of a text, through a reader.
 pub fn rack_from(text: &[u8], at: usize) -> RackRead
     ensures { λ r. ⌜ RackAt (now (text .entry)) at r ⌝ }
 {
@@ -69,7 +69,7 @@ pub fn rack_from(text: &[u8], at: usize) -> RackRead
     first_line(&mut r)
 }
 
-// The line of a change at a position of a text, through a reader.
+// The line of a change at a place of a text, through a reader.
 pub fn change_from(text: &[u8], at: usize, words: &mut [u32]) -> ChangeRead
     requires { ⌜ 128 ≤ length (now words) ⌝ }
     ensures { λ r. ⌜ ChangeAt (now (text .entry)) at (now (words .exit)) r ⌝ }

@@ -31,7 +31,7 @@ use denote.Memory.{mem}
 use denote.Builtin.{u8, u32, usize}
 use denote.Plain.{uint-makes, uint-vals, uint-tells}
 use denote.Ref.{RefT, NamedLft, MutRef, now}
-use denote.Signature.{plain, namedLft}
+use denote.Signature.{plain}
 use denote.Slice.{sliceVal, ShrSlice, MutSlice, Room, finally, slice-vals, shr-slice-tells, shr-slice-lawful, shr-slice-copy, mut-slice-tells}
 use denote.Steps.{owned, peeks, heard, nothing}
 use denote.Enum.Laws as EL
@@ -46,13 +46,14 @@ use denote.Exit.{yes}
 use denote.Triple.Clauses.{ensured, lasts}
 use Rattle.lines.specs.Contracts.{ChangeAt}
 use Rattle.lines.specs.declared.ChangeRead.{ChangeRead}
-use Rattle.reader.specs.Place.{pastLine}
+use Rattle.reader.specs.Place.{pastLine, Moved}
 use Rattle.reader.specs.declared.Reader.{Reader}
 use Rattle.reader.proofs.Reader as T
 use Rattle.reader.proofs.Reader.Laws as T′
 use Rattle.lines.proofs.ChangeRead as S
 use Rattle.lines.proofs.ChangeRead.Laws as S′
-use Rattle.reader.proofs.Lent.{Behind, Back, loan-in, loan-out, loan-over, laid, lifted}
+use Rattle.reader.proofs.Held.{Behind}
+use Rattle.reader.proofs.Lent.{Back, loan-in, loan-out, loan-over, laid, lifted}
 use Rattle.reader.proofs.opened as opened
 use Rattle.reader.proofs.opened.Symbol as opened-def
 use Rattle.reader.proofs.opened.Symbol.{name as #reader·opened}
@@ -161,7 +162,7 @@ module _ {M : Type 1} (𝓤 : URA M) (H : Heap 𝓤) (A : Atoms 𝓤) (W : Given
 
   -- what it says: what it read, and where the reader stands
   abbrev Said : ChangeRead → Reader → List ℕ → Type 0
-  Said t h′ zs = ChangeAt (now s) n zs t × (h′ .text ≡ s) × (h′ .at ≡ pastLine n t)
+  Said t h′ zs = ChangeAt (now s) n zs t × Moved h (pastLine n t) h′
 
   exits : (t : ChangeRead) (u : Val) (zs : List ℕ) → ChangeAt (now s) n zs t → length zs ≡ length ys → ent 𝓤 (⋆ 𝓤 H A (‵ (flft κ q) ∷ (‵ (flft κ′ q′) ⊛ ‵ ftrue) ∷ ‵ (S.the-row .own t (u ∷ [])) ∷ ‵ (finally u32 γ zs) ∷ ‵ Own ∷ [])) (Post u)
   exits t u zs e l =

@@ -18,26 +18,23 @@ use ghost.Atoms.{Atoms, sem}
 use contract.Lifetimes.{AllOutlive, Lfts}
 use contract.Monad.{Fun, fact}
 use contract.Running.{givenOf, tables, tablesOf}
-use types.Kit.{Given, ‵, raw, _⊛_, given, ⋆, some, later, _$_, _∵_, !, qed, by, move, keep, drop, use0, use1, use2, use3, split, join, learn, pick, rewrite, fsplit, fsplit3, fjoin, fjoin3, feqI, feqL, suffices, frame, await, done}
+use types.Kit.{Given, ‵, raw, _⊛_, ⋆, some, later, _$_, _∵_, !, qed, by, move, keep, drop, use0, use1, use2, use3, split, join, pick, rewrite, fsplit, fsplit3, fjoin, fjoin3, feqI, feqL, suffices, frame, await, done}
 use types.Part.{agg, whole, sub, look-in, store-in}
 use types.Run.{look, init, forget, stop, hop, fld, from, load, addr, of-opd, and-then, no-more, assigns, land, returns, enter, alloc1, alloc0, params1, pass1, pass0, free1, free0}
 use types.SemTy.{Body}
 use sound.WpLaws.{FmC, fmOf, WpFn-mono}
-use denote.RattleType.{RattleType, owns}
+use denote.RattleType.{owns}
 use denote.Laws.{Is, shows}
 use denote.Memory.{mem, cellAt}
 use denote.Plain.{uint-makes, uint-lawful}
 use denote.Builtin.{u8, u32, usize}
-use denote.Ref.{RefT, NamedLft, MutRef, now, ptr-vals, mut-tells}
+use denote.Ref.{RefT, MutRef, now, ptr-vals, mut-tells}
 use denote.Signature.{Slot, plain, namedLft}
 use denote.Slice.{sliceVal, ShrSlice, MutSlice, Room, finally, slice-vals, mut-slice-tells}
 use denote.Steps.{only, opens, closes, owned, peeks, heard, nothing}
 use denote.Enum.Laws as EL
-use denote.Struct.Declared.{Declared}
 use denote.Struct.Laws as LL
-use denote.Struct.Rest.{all-own, ownAt, rest, own-open, own-out, own-put}
 use denote.Struct.Steps.{spelt}
-use denote.Struct.Values.{Values}
 use denote.Triple.Statement.{Contract, Triple}
 use denote.Triple.Call.{calls-at}
 use denote.Triple.Entry.{Vals, onEntry}
@@ -51,6 +48,7 @@ use Rattle.reader.specs.Place.{pastLine}
 use Rattle.reader.specs.declared.Reader.{Reader}
 use Rattle.reader.proofs.Reader as T
 use Rattle.reader.proofs.Reader.Laws as T′
+use Rattle.reader.proofs.Held.{Behind, D, L, Own, OwnText, textVal, on, at-fits, text-out, again}
 use Rattle.lines.proofs.ChangeRead as S
 use Rattle.lines.proofs.ChangeRead.Laws as S′
 use Rattle.lines.proofs.change_at as change-at
@@ -65,13 +63,6 @@ use Rattle.reader.proofs.next_line.Key.{name as #reader·next-line}
 use Rattle.reader.proofs.next_line as next-line
 use Rattle.reader.proofs.next_line.Statement as stated
 use Rattle.reader.proofs.next_line.Code as code
-
--- 'a, and the struct's type at it
-abbrev α : Lft → NamedLft
-α κ′ = record { mir = named 1; lft = κ′ }
-
-abbrev B : Lft → RattleType
-B κ′ = T.the-row (α κ′)
 
 -- `Reader<'a>`, as the referent's place in the signature
 abbrev behind : Slot 3
@@ -102,19 +93,12 @@ module _ {M : Type 1} (𝓤 : URA M) (H : Heap 𝓤) (A : Atoms 𝓤) (W : Given
   abbrev x : Arg
   x = (record { ptr = (b, o); name = γ; now = h }, (y, tt))
 
-  -- the machine values of text and of the words
-  abbrev v : Val
-  v = sliceVal (h .text .ptr) (length (h .text .now))
-
+  -- the machine value of the words
   abbrev s : Val
   s = sliceVal (b′, o′) (length ys)
 
   abbrev at : List Val × (List Val × Unit {0})
   at = (vptr b o ∷ [], (s ∷ [], tt))
-
-  -- the reader moved on to the place m
-  abbrev on : ℕ → Reader
-  on m = record { text = h .text; at = m }
 
   -- what the answer must be, with the last words
   abbrev Found : List ℕ → ChangeRead → Type 0
@@ -123,21 +107,8 @@ module _ {M : Type 1} (𝓤 : URA M) (H : Heap 𝓤) (A : Atoms 𝓤) (W : Given
   abbrev Post : Val → SProp 𝓤
   Post = walkOf 𝓤 H A next-line.ended stayed (next-line.clauses 𝓤 H A at-mem run) .post ((κs, (q, (q′, (q″, tt))), bounds, x, at), tt)
 
-  abbrev Own : Fml
-  Own = B κ′ .own h (T′.lowered h ∷ [])
-
   abbrev Words : Fml
   Words = fsep (MutSlice (named 2) κ″ u32 .own y (s ∷ [])) ftrue
-
-  -- the struct's type and laws, and h's fields' values
-  abbrev D : Declared
-  D = T.the-type (α κ′)
-
-  abbrev L : LL.Laws D
-  L = T′.the-laws (α κ′)
-
-  abbrev vd : Values (D .parts)
-  vd = (h .text, (h .at, tt))
 
   -- the call of `change_at`: what it is passed and what it asks
   abbrev κs′ : Lfts 2
@@ -150,7 +121,7 @@ module _ {M : Type 1} (𝓤 : URA M) (H : Heap 𝓤) (A : Atoms 𝓤) (W : Given
   lent = (h .text, (h .at, (y, tt)))
 
   abbrev passed : Vals change-at.signature κs′
-  passed = (v ∷ [], (vint w64 (h .at) ∷ [], (s ∷ [], tt)))
+  passed = (textVal h ∷ [], (vint w64 (h .at) ∷ [], (s ∷ [], tt)))
 
   abbrev to-read : Reading 𝓤 H A at-mem run .Ghost
   to-read = ((κs′, (q′, (q″, tt)), tt, lent, passed), tt)
@@ -158,13 +129,10 @@ module _ {M : Type 1} (𝓤 : URA M) (H : Heap 𝓤) (A : Atoms 𝓤) (W : Given
   asked : ent 𝓤 (onEntry 𝓤 H A change-at.signature κs′ (q′, (q″, tt)) lent passed) (Reading 𝓤 H A at-mem run .pre to-read)
   asked = qed W ((‵ (flft κ′ q′) ⊛ ‵ (flft κ″ q″) ⊛ ‵ ftrue) ∷ ‵ (owns (ShrSlice (named 0) κ′ u8 ∷ usize ∷ MutSlice (named 1) κ″ u32 ∷ []) lent passed) ∷ []) ∵ says ! enough $ frame ! $ done !
 
-  goes-read : h .at < 2 ^ 64 → ent 𝓤 (⋆ 𝓤 H A (‵ Own ∷ (‵ (flft κ′ q′) ⊛ ‵ (flft κ″ q″) ⊛ ‵ ftrue) ∷ ‵ Words ∷ [])) (sep 𝓤 (Reading 𝓤 H A at-mem run .pre to-read) (sem 𝓤 H A Own))
+  goes-read : h .at < 2 ^ 64 → ent 𝓤 (⋆ 𝓤 H A (‵ (Own κ′ h) ∷ (‵ (flft κ′ q′) ⊛ ‵ (flft κ″ q″) ⊛ ‵ ftrue) ∷ ‵ Words ∷ [])) (sep 𝓤 (Reading 𝓤 H A at-mem run .pre to-read) (sem 𝓤 H A (Own κ′ h)))
   goes-read fits =
-      qed W (‵ Own ∷ (‵ (flft κ′ q′) ⊛ ‵ (flft κ″ q″) ⊛ ‵ ftrue) ∷ ‵ Words ∷ []) ∵ use1 W (‵ Own ⊛ ‵ Own) (LL.copy D (T′.the-copy (α κ′)) 𝓤 H A W .twice h (T′.lowered h ∷ [])) $ split ! $
-      use1 W (given (T′.lowered h ∷ [] ≡ T′.lowered h ∷ []) (‵ (all-own (D .parts) L vd))) (own-open 𝓤 H A W D L vd (T′.lowered h)) $ learn ! (λ _. use1 W (‵ (ownAt (D .parts) L 0 (h .text)) ⊛ ‵ (rest (D .parts) L 0 vd)) (own-out 𝓤 H A W (D .parts) L 0 vd) $ split ! $
-      -- [what text owns; what at owns; what the struct owns; the tokens; what the words own]
-      move ! (1 ∷ []) $ drop ! $ move ! (3 ∷ []) $ owned ! usize (Is usize) (uint-makes 𝓤 H A W w64) (h .at) _ (refl, fits) $ fjoin ! $ move ! (1 ∷ 0 ∷ []) $ fjoin ! $
-      move ! (2 ∷ 0 ∷ []) $ use2 W (raw (Reading 𝓤 H A at-mem run .pre to-read)) asked $ frame ! $ done !)
+      qed W (‵ (Own κ′ h) ∷ (‵ (flft κ′ q′) ⊛ ‵ (flft κ″ q″) ⊛ ‵ ftrue) ∷ ‵ Words ∷ []) ∵ use1 W (‵ (OwnText κ′ h) ⊛ ‵ (Own κ′ h)) (text-out 𝓤 H A W κ′ h) $ split ! $ move ! (3 ∷ []) $ owned ! usize (Is usize) (uint-makes 𝓤 H A W w64) (h .at) _ (refl, fits) $ fjoin ! $ move ! (1 ∷ 0 ∷ []) $ fjoin ! $
+      move ! (2 ∷ 0 ∷ []) $ use2 W (raw (Reading 𝓤 H A at-mem run .pre to-read)) asked $ frame ! $ done !
 
   -- the call of `past_line`, at the line r with the machine value u
   abbrev to-past : ChangeRead → Val → Past 𝓤 H A at-mem run .Ghost
@@ -178,39 +146,31 @@ module _ {M : Type 1} (𝓤 : URA M) (H : Heap 𝓤) (A : Atoms 𝓤) (W : Given
   past-said : (r : ChangeRead) (m : ℕ) → ent 𝓤 (ensured 𝓤 H A past-line.ended (past-line.clauses 𝓤 H A at-mem run) tt (h .at, (r, tt)) tt m) (fact 𝓤 (m ≡ pastLine (h .at) r))
   past-said r m = exE 𝓤 _ (λ ws. snd∗ 𝓤 (sem 𝓤 H A (lasts past-line.ended tt (h .at, (r, tt)) ws)) (fact 𝓤 (m ≡ pastLine (h .at) r)))
 
-  -- what text owns is kept, and the place's facts are made anew
-  again : (m : ℕ) → m < 2 ^ 64 → ent 𝓤 (sem 𝓤 H A Own) (sem 𝓤 H A (B κ′ .own (on m) (T′.lowered (on m) ∷ [])))
-  again m fits = qed W (‵ Own ∷ []) ∵ owned ! usize (Is usize) (uint-makes 𝓤 H A W w64) m _ (refl, fits) $ move ! (1 ∷ 0 ∷ []) $ by ! (own-put 𝓤 H A W D L 1 vd m (T′.lowered h))
-
   exits : (r : ChangeRead) (u : Val) (zs : List ℕ) (m : ℕ) → Found zs r → length zs ≡ length ys → m ≡ pastLine (h .at) r
-      → ent 𝓤 (⋆ 𝓤 H A (‵ (fobs γ (B κ′ .coded .code (on m))) ∷ ‵ (fbor κ (Body (mem (B κ′)) b o γ)) ∷ ‵ (flft κ q) ∷ (‵ (flft κ′ q′) ⊛ ‵ (flft κ″ q″) ⊛ ‵ ftrue) ∷ ‵ (finally u32 γ′ zs) ∷ ‵ (S.the-row .own r (u ∷ [])) ∷ [])) (Post u)
+      → ent 𝓤 (⋆ 𝓤 H A (‵ (fobs γ (Behind κ′ .coded .code (on h m))) ∷ ‵ (fbor κ (Body (mem (Behind κ′)) b o γ)) ∷ ‵ (flft κ q) ∷ (‵ (flft κ′ q′) ⊛ ‵ (flft κ″ q″) ⊛ ‵ ftrue) ∷ ‵ (finally u32 γ′ zs) ∷ ‵ (S.the-row .own r (u ∷ [])) ∷ [])) (Post u)
   exits r u zs m e l e′ =
-      qed W (‵ (fobs γ (B κ′ .coded .code (on m))) ∷ ‵ (fbor κ (Body (mem (B κ′)) b o γ)) ∷ ‵ (flft κ q) ∷ (‵ (flft κ′ q′) ⊛ ‵ (flft κ″ q″) ⊛ ‵ ftrue) ∷ ‵ (finally u32 γ′ zs) ∷ ‵ (S.the-row .own r (u ∷ [])) ∷ []) ∵
-      suffices ! _ (ends-at 𝓤 H A next-line.ended stayed (next-line.clauses 𝓤 H A at-mem run) W ((κs, (q, (q′, (q″, tt))), bounds, x, at), tt) u r (on m, (zs, tt)) (tt, (l, tt))) $ says ! (e, refl, e′) $
+      qed W (‵ (fobs γ (Behind κ′ .coded .code (on h m))) ∷ ‵ (fbor κ (Body (mem (Behind κ′)) b o γ)) ∷ ‵ (flft κ q) ∷ (‵ (flft κ′ q′) ⊛ ‵ (flft κ″ q″) ⊛ ‵ ftrue) ∷ ‵ (finally u32 γ′ zs) ∷ ‵ (S.the-row .own r (u ∷ [])) ∷ []) ∵
+      suffices ! _ (ends-at 𝓤 H A next-line.ended stayed (next-line.clauses 𝓤 H A at-mem run) W ((κs, (q, (q′, (q″, tt))), bounds, x, at), tt) u r (on h m, (zs, tt)) (tt, (l, tt))) $ says ! (e, (refl, e′)) $
       move ! (2 ∷ 3 ∷ []) $ join ! $ frame ! $ feqI ! (List Val) (vptr b o ∷ []) (vptr b o ∷ []) refl $ fjoin3 ! $ nothing ! $ move ! (2 ∷ 0 ∷ []) $ fjoin ! $ move ! (1 ∷ 0 ∷ []) $ fjoin ! $ frame ! $ done !
-
-  -- what whoever holds the struct knows of the place
-  at-fits : Is (B κ′) h (T′.lowered h ∷ []) → h .at < 2 ^ 64
-  at-fits g = LL.owed D L h _ g .1 .0 .1
 
   module _ (C : Calls 𝓤 H) (Λ : Loops 𝓤 H) (fm : FmC 𝓤 H (W .laws) C) (known-read : Triple 𝓤 (C #lines·change-at) (Reading 𝓤 H A at-mem run)) (known-past : Triple 𝓤 (C #reader·past-line) (Past 𝓤 H A at-mem run)) where
     walk : Room u32 (length ys) → ent 𝓤 (onEntry 𝓤 H A next-line.signature κs (q, (q′, (q″, tt))) x at) (WpFn 𝓤 H C Λ code.function (vptr b o ∷ s ∷ []) Post)
     walk room =
-        qed W ((‵ (flft κ q) ⊛ ‵ (flft κ′ q′) ⊛ ‵ (flft κ″ q″) ⊛ ‵ ftrue) ∷ ‵ (owns (MutRef (named 0) κ (B κ′) ∷ MutSlice (named 2) κ″ u32 ∷ []) x at) ∷ []) ∵ enter ! C Λ code.function (vptr b o ∷ s ∷ []) _ $
+        qed W ((‵ (flft κ q) ⊛ ‵ (flft κ′ q′) ⊛ ‵ (flft κ″ q″) ⊛ ‵ ftrue) ∷ ‵ (owns (MutRef (named 0) κ (Behind κ′) ∷ MutSlice (named 2) κ″ u32 ∷ []) x at) ∷ []) ∵ enter ! C Λ code.function (vptr b o ∷ s ∷ []) _ $
         alloc1 ! (λ l₀. alloc1 ! (λ l₁. alloc1 ! (λ l₂. alloc1 ! (λ l₃. alloc1 ! (λ l₄. alloc1 ! (λ l₅. alloc1 ! (λ l₆. alloc1 ! (λ l₇. alloc1 ! (λ l₈. alloc0 ! $ params1 ! $
         pass1 ! (init ! 14 refl (tt, tt)) $ pass1 ! (init ! 12 refl (tt, (tt, (record { fits = room .0 }, tt)))) $ pass0 ! $
         -- the borrow is opened
         move ! (19 ∷ []) $ fsplit ! $ fsplit3 ! $ drop ! $ move ! (21 ∷ []) $ split ! $ move ! (2 ∷ 3 ∷ 0 ∷ []) $
-        opens ! tt (B κ′) {h = h} b o (λ vs. spelt ! (B κ′) (Is (B κ′)) (shows 𝓤 H A (B κ′)) (LL.vals D L) (LL.tells D L) fullShare h vs b o $
+        opens ! tt (Behind κ′) {h = h} b o (λ vs. spelt ! (Behind κ′) (Is (Behind κ′)) (shows 𝓤 H A (Behind κ′)) (LL.vals (D κ′) (L κ′)) (LL.tells (D κ′) (L κ′)) fullShare h vs b o $
         use1 W (‵ (fat fullShare (T′.mir erased) b o (T′.lowered h))) (W .laws .raw-at fullShare (T′.mir erased) b o (T′.lowered h)) $
-        move ! (1 ∷ []) $ peeks ! (B κ′) (Is (B κ′)) (shows 𝓤 H A (B κ′)) h (T′.lowered h ∷ []) (λ g. move ! (1 ∷ 0 ∷ []) $
+        move ! (1 ∷ []) $ peeks ! (Behind κ′) (Is (Behind κ′)) (shows 𝓤 H A (Behind κ′)) h (T′.lowered h ∷ []) (λ g. move ! (1 ∷ 0 ∷ []) $
         -- [the struct's cell; what a Reader owns; the open borrow; obs; auth; the tokens of 'a and 'w; what the words own; _8; …; _7; …; _6; …; _5; …; _4; …; _3; …; _2; …; _1; …; room for _0; …]
-        assigns ! (of-opd ! (load ! (from ! (hop ! (look ! 21 refl) (fld ! refl (stop !)))) (look-in ! 0 (sub ! 1 refl (whole !))))) (from ! (stop !)) (init ! 17 refl (tt, record { fits = at-fits g })) $
-        assigns ! (of-opd ! (load ! (from ! (hop ! (look ! 21 refl) (fld ! refl (stop !)))) (look-in ! 0 (sub ! 0 refl (whole !))))) (from ! (stop !)) (init ! 13 refl (tt, LL.lawful D L 𝓤 H A W .typed h _ g .0 .1 .0)) $
+        assigns ! (of-opd ! (load ! (from ! (hop ! (look ! 21 refl) (fld ! refl (stop !)))) (look-in ! 0 (sub ! 1 refl (whole !))))) (from ! (stop !)) (init ! 17 refl (tt, record { fits = at-fits κ′ h g })) $
+        assigns ! (of-opd ! (load ! (from ! (hop ! (look ! 21 refl) (fld ! refl (stop !)))) (look-in ! 0 (sub ! 0 refl (whole !))))) (from ! (stop !)) (init ! 13 refl (tt, LL.lawful (D κ′) (L κ′) 𝓤 H A W .typed h _ g .0 .1 .0)) $
         assigns ! (addr ! (from ! (fld ! refl (hop ! (look-in ! 19 (sub ! 0 refl (whole !))) (stop !))))) (from ! (stop !)) (init ! 11 refl (tt, tt)) $
         assigns ! (agg ! (and-then ! (load ! (from ! (stop !)) (look ! 11 refl)) (and-then ! (load ! (from ! (fld ! refl (stop !))) (look-in ! 19 (sub ! 1 refl (whole !)))) (no-more !)))) (from ! (stop !)) (init ! 9 refl (tt, (tt, (record { fits = room .0 }, tt)))) $
         -- `change_at`
-        move ! (1 ∷ 5 ∷ 6 ∷ []) $ use3 W (raw (Reading 𝓤 H A at-mem run .pre to-read) ⊛ ‵ Own) (goes-read (at-fits g)) $ split ! $
+        move ! (1 ∷ 5 ∷ 6 ∷ []) $ use3 W (raw (Reading 𝓤 H A at-mem run .pre to-read) ⊛ ‵ (Own κ′ h)) (goes-read (at-fits κ′ h g)) $ split ! $
         calls-at ! fm (Reading 𝓤 H A at-mem run) known-read to-read (and-then ! (load ! (from ! (stop !)) (look ! 12 refl)) (and-then ! (load ! (from ! (stop !)) (look ! 16 refl)) (and-then ! (load ! (from ! (stop !)) (look ! 8 refl)) (no-more !)))) (λ u.
         use1 W (later (some (λ (r : ChangeRead). ((‵ (flft κ′ q′) ⊛ ‵ (flft κ″ q″) ⊛ ‵ ftrue) ⊛ ‵ (S.the-row .own r (u ∷ []))) ⊛ raw (ensured 𝓤 H A change-at.ended (change-at.clauses 𝓤 H A at-mem run) κs′ lent tt r)))) (id⊢ 𝓤 _) $ await ! tt $ pick ! (λ r.
         split ! $ move ! (1 ∷ []) $ use1 W (some (λ (zs : Unit {0} × (Unit {0} × (List ℕ × Unit {0}))). ‵ (lasts change-at.ended κs′ lent zs) ⊛ raw (fact 𝓤 (Found (zs .1 .1 .0) r)))) (id⊢ 𝓤 _) $ pick ! (λ zs.
@@ -218,7 +178,7 @@ module _ {M : Type 1} (𝓤 : URA M) (H : Heap 𝓤) (A : Atoms 𝓤) (W : Given
         -- [the line; the tokens of 'a and 'w; the last words; …; what a Reader owns; the struct's cell; the open borrow; obs; auth; _8; …; _7; …; _6; …; _5; …; _4; …; _3; …; _2; …; _1; …; room for _0; …]
         peeks ! S.the-row (Is S.the-row) (shows 𝓤 H A S.the-row) r (u ∷ []) (λ is. land ! (from ! (stop !)) (init ! 17 refl (EL.lawful S.the-type S′.the-laws 𝓤 H A W tt .typed r _ is .0)) $
         -- `past_line`
-        use0 W (raw (Past 𝓤 H A at-mem run .pre (to-past r u))) (goes-past r u is (at-fits g)) $
+        use0 W (raw (Past 𝓤 H A at-mem run .pre (to-past r u))) (goes-past r u is (at-fits κ′ h g)) $
         calls-at ! fm (Past 𝓤 H A at-mem run) known-past (to-past r u) (and-then ! (load ! (from ! (stop !)) (look ! 20 refl)) (and-then ! (load ! (from ! (stop !)) (look ! 18 refl)) (no-more !))) (λ w.
         use1 W (later (some (λ (m : ℕ). (‵ ftrue ⊛ ‵ (usize .own m (w ∷ []))) ⊛ raw (ensured 𝓤 H A past-line.ended (past-line.clauses 𝓤 H A at-mem run) tt (h .at, (r, tt)) tt m)))) (id⊢ 𝓤 _) $ await ! tt $ pick ! (λ m.
         split ! $ move ! (1 ∷ []) $ use1 W (raw (fact 𝓤 (m ≡ pastLine (h .at) r))) (past-said r m) $ heard ! (m ≡ pastLine (h .at) r) (λ e′. split ! $ drop ! $
@@ -227,9 +187,9 @@ module _ {M : Type 1} (𝓤 : URA M) (H : Heap 𝓤) (A : Atoms 𝓤) (W : Given
         assigns ! (of-opd ! (load ! (from ! (stop !)) (look ! 10 refl))) (from ! (hop ! (look ! 24 refl) (fld ! refl (stop !)))) (store-in ! 6 (sub ! 1 refl (whole !)) (tt, record { fits = is′ .1 })) $
         assigns ! (of-opd ! (load ! (from ! (stop !)) (look ! 18 refl))) (from ! (stop !)) (init ! 26 refl (EL.lawful S.the-type S′.the-laws 𝓤 H A W tt .typed r _ is .0)) $
         -- the borrow is closed at the reader moved on
-        move ! (5 ∷ []) $ use1 W (‵ (B κ′ .own (on m) (T′.lowered (on m) ∷ []))) (again m (is′ .1)) $
-        move ! (6 ∷ []) $ use1 W (‵ (cellAt fullShare (B κ′ .mir) (T′.lowered (on m) ∷ []) b o)) (W .laws .at-raw fullShare (T′.mir erased) b o (T′.lowered (on m))) $
-        move ! (0 ∷ 1 ∷ 7 ∷ 8 ∷ 9 ∷ []) $ closes ! tt (B κ′) (on m) (T′.lowered (on m) ∷ []) b o $
+        move ! (5 ∷ []) $ use1 W (‵ (Own κ′ (on h m))) (again 𝓤 H A W κ′ h m (is′ .1)) $
+        move ! (6 ∷ []) $ use1 W (‵ (cellAt fullShare (Behind κ′ .mir) (T′.lowered (on h m) ∷ []) b o)) (W .laws .at-raw fullShare (T′.mir erased) b o (T′.lowered (on h m))) $
+        move ! (0 ∷ 1 ∷ 7 ∷ 8 ∷ 9 ∷ []) $ closes ! tt (Behind κ′) (on h m) (T′.lowered (on h m) ∷ []) b o $
         -- [obs; the borrow; 's's token; the new place; the line; the tokens of 'a and 'w; the last words; …; _8; …; _7; …; _6; …; _5; …; _4; …; _3; …; _2; …; _1; …; _0; …]
         returns ! (look ! 24 refl) $ forget ! 8 refl $ forget ! 10 refl $ forget ! 12 refl $ forget ! 14 refl $ forget ! 16 refl $ forget ! 18 refl $ forget ! 20 refl $ forget ! 22 refl $ forget ! 24 refl $
         move ! (24 ∷ 25 ∷ []) $ free1 ! $ move ! (22 ∷ 23 ∷ []) $ free1 ! $ move ! (20 ∷ 21 ∷ []) $ free1 ! $ move ! (18 ∷ 19 ∷ []) $ free1 ! $ move ! (16 ∷ 17 ∷ []) $ free1 ! $ move ! (14 ∷ 15 ∷ []) $ free1 ! $ move ! (12 ∷ 13 ∷ []) $ free1 ! $ move ! (10 ∷ 11 ∷ []) $ free1 ! $ move ! (8 ∷ 9 ∷ []) $ free1 ! $ free0 ! $
@@ -239,7 +199,7 @@ module _ {M : Type 1} (𝓤 : URA M) (H : Heap 𝓤) (A : Atoms 𝓤) (W : Given
   next-line-walks : (C : Calls 𝓤 H) (Λ : Loops 𝓤 H) → FmC 𝓤 H (W .laws) C → Triple 𝓤 (C #lines·change-at) (Reading 𝓤 H A mem run) → Triple 𝓤 (C #reader·past-line) (Past 𝓤 H A mem run)
       → Walks 𝓤 H A next-line.ended stayed (WpFn 𝓤 H C Λ code.function) (next-line.clauses 𝓤 H A mem run)
   next-line-walks C Λ fm known-read known-past = walked 𝓤 H A next-line.ended stayed (next-line.clauses 𝓤 H A mem run) (WpFn 𝓤 H C Λ code.function)
-      (λ κs. (ptr-vals, (slice-vals, tt))) (λ κs. (mut-tells (named 0) (κs .0) (B (κs .1 .0)), (mut-slice-tells (named 2) (κs .1 .1 .0) u32, tt)))
+      (λ κs. (ptr-vals, (slice-vals, tt))) (λ κs. (mut-tells (named 0) (κs .0) (Behind (κs .1 .0)), (mut-slice-tells (named 2) (κs .1 .1 .0) u32, tt)))
       (λ κs qs bounds a _ are. needs 𝓤 (128 ≤ length (a .1 .0 .now)) _ (λ enough.
       walk 𝓤 H A W mem run (κs .0) (κs .1 .0) (κs .1 .1 .0) (qs .0) (qs .1 .0) (qs .1 .1 .0) bounds (a .0 .ptr .0) (a .0 .ptr .1) (a .0 .name) (a .0 .now) (a .1 .0 .ptr .0) (a .1 .0 .ptr .1) (a .1 .0 .name) (a .1 .0 .now) enough C Λ fm known-read known-past (are .1 .0 .0 .1)))
 

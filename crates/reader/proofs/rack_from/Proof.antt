@@ -31,7 +31,7 @@ use denote.Memory.{mem}
 use denote.Builtin.{u8, usize}
 use denote.Plain.{uint-makes, uint-vals, uint-tells}
 use denote.Ref.{RefT, NamedLft, MutRef, now}
-use denote.Signature.{plain, namedLft}
+use denote.Signature.{plain}
 use denote.Slice.{sliceVal, ShrSlice, slice-vals, shr-slice-tells, shr-slice-lawful, shr-slice-copy}
 use denote.Steps.{owned, peeks, heard, nothing}
 use denote.Enum.Laws as EL
@@ -46,13 +46,14 @@ use denote.Exit.{yes}
 use denote.Triple.Clauses.{ensured, lasts}
 use Rattle.lines.specs.Contracts.{RackAt}
 use Rattle.lines.specs.declared.RackRead.{RackRead}
-use Rattle.reader.specs.Place.{pastRack}
+use Rattle.reader.specs.Place.{pastRack, Moved}
 use Rattle.reader.specs.declared.Reader.{Reader}
 use Rattle.reader.proofs.Reader as T
 use Rattle.reader.proofs.Reader.Laws as T′
 use Rattle.lines.proofs.RackRead as S
 use Rattle.lines.proofs.RackRead.Laws as S′
-use Rattle.reader.proofs.Lent.{Behind, Back, loan-in, loan-out, loan-over, laid, lifted}
+use Rattle.reader.proofs.Held.{Behind}
+use Rattle.reader.proofs.Lent.{Back, loan-in, loan-out, loan-over, laid, lifted}
 use Rattle.reader.proofs.opened as opened
 use Rattle.reader.proofs.opened.Symbol as opened-def
 use Rattle.reader.proofs.opened.Symbol.{name as #reader·opened}
@@ -138,7 +139,7 @@ module _ {M : Type 1} (𝓤 : URA M) (H : Heap 𝓤) (A : Atoms 𝓤) (W : Given
 
   -- what it says: what it read, and where the reader stands
   abbrev Said : RackRead → Reader → Type 0
-  Said t h′ = RackAt (now s) n t × (h′ .text ≡ s) × (h′ .at ≡ pastRack n t)
+  Said t h′ = RackAt (now s) n t × Moved h (pastRack n t) h′
 
   exits : (t : RackRead) (u : Val) → RackAt (now s) n t → ent 𝓤 (⋆ 𝓤 H A (‵ (flft κ q) ∷ ‵ (S.the-row .own t (u ∷ [])) ∷ ‵ Own ∷ [])) (Post u)
   exits t u e =
