@@ -68,15 +68,18 @@ pub fn read(text: &[u8], heads: &mut [u32], words: &mut [u32]) -> Checked
     requires { ⌜ (length (now text) ≤ longest) × (headsRoom ≤ length (now heads)) × (wordsRoom ≤ length (now words)) ⌝ }
     ensures { λ r. ⌜ Checks (now (text .entry)) (now (heads .exit)) (now (words .exit)) r ⌝ }
 {
-    let RackRead::Rack(n, first) = lines::rack_at(text, 0) else {
+    let RackRead::Rack(n, first) = reader::rack_from(text, 0) else {
         return Checked::Bad(1);
     };
     let mut i = first;
     let mut k = 0;
     let mut w = 0;
     while i < text.len() {
-        let ChangeRead::Line(code, a, b, count, next) = lines::change_at(text, i, &mut words[w..])
-        else {
+        let ChangeRead::Line(code, a, b, count, next) = reader::change_from(
+            text,
+            i,
+            &mut words[w..],
+        ) else {
             return Checked::Bad(k + 2);
         };
         put_head(heads, 4 * k, code, a, b, count as u32);

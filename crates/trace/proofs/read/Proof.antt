@@ -35,8 +35,8 @@ Inv-loop text heads₀ words₀ n first i₀ k₀ w₀ heads words i k w =
 abbrev μ-loop : tie.MeasureT-loop
 μ-loop text heads₀ words₀ n first i₀ k₀ w₀ heads words i k w = length text - i
 
-rack-at-requires : tie.Need-rack-at-requires Inv-loop μ-loop
-rack-at-requires c κs = search needs
+rack-from-requires : tie.Need-rack-from-requires Inv-loop μ-loop
+rack-from-requires c κs = search needs
 
 enum-known-n : tie.Need-enum-known-n Inv-loop μ-loop
 enum-known-n c = search needs
@@ -45,11 +45,11 @@ enum-told : tie.Need-enum-told Inv-loop μ-loop
 enum-told c = search needs
 
 returns : tie.Need-returns Inv-loop μ-loop
-returns c = bad-rack (c .before .before .before .before .before .before .args .text .now) (λ n rest g e. subst (RackAt _ _) (c .enum-told .given .1) (c .before .before .rack-at .ensures) n rest g e)
+returns c = bad-rack (c .before .before .before .before .before .before .args .text .now) (λ n rest g e. subst (RackAt _ _) (c .enum-told .given .1) (c .before .before .rack-from .ensures) n rest g e)
 
 -- line 1, where it was read
 rack : (c : tie.After-known-told Inv-loop μ-loop) → RackAt (c .before .before .before .before .before .before .before .args .text .now) 0 (Rack (c .before .n .given .0 .0) (c .before .n .given .0 .1 .0))
-rack c = subst (RackAt _ _) (c .before .n .given .1) (c .before .before .before .rack-at .ensures)
+rack c = subst (RackAt _ _) (c .before .n .given .1) (c .before .before .before .rack-from .ensures)
 
 loop-holds : tie.Need-loop-holds Inv-loop μ-loop
 unfolding texts
@@ -57,20 +57,20 @@ loop-holds c =
     let r = rack c in
     (r .within, r .good, refl, refl, omega arith, ([], tt, r .stands, refl, refl, kept-none _ _))
 
-mul-change-at : tie.Need-mul-change-at Inv-loop μ-loop
-mul-change-at c = let v = c .before .loop .inv in record { fits = omega (arith, v .0, v .4, c .before .before .before .before .before .before .before .before .before .pre .0) }
+mul-change-from : tie.Need-mul-change-from Inv-loop μ-loop
+mul-change-from c = let v = c .before .loop .inv in record { fits = omega (arith, v .0, v .4, c .before .before .before .before .before .before .before .before .before .pre .0) }
 
-sub-change-at : tie.Need-sub-change-at Inv-loop μ-loop
-sub-change-at c = let v = c .before .loop .inv in omega (arith, v .0, v .3, v .4, c .before .before .before .before .before .before .before .before .before .pre)
+sub-change-from : tie.Need-sub-change-from Inv-loop μ-loop
+sub-change-from c = let v = c .before .loop .inv in omega (arith, v .0, v .3, v .4, c .before .before .before .before .before .before .before .before .before .pre)
 
-part-change-at-start : tie.Need-part-change-at-start Inv-loop μ-loop
-part-change-at-start c = let v = c .before .loop .inv in omega (arith, v .0, v .3, v .4, c .before .before .before .before .before .before .before .before .before .pre)
+part-change-from-start : tie.Need-part-change-from-start Inv-loop μ-loop
+part-change-from-start c = let v = c .before .loop .inv in omega (arith, v .0, v .3, v .4, c .before .before .before .before .before .before .before .before .before .pre)
 
-part-change-at-end : tie.Need-part-change-at-end Inv-loop μ-loop
-part-change-at-end c = search needs
+part-change-from-end : tie.Need-part-change-from-end Inv-loop μ-loop
+part-change-from-end c = search needs
 
-change-at-requires : tie.Need-change-at-requires Inv-loop μ-loop
-change-at-requires c κs =
+change-from-requires : tie.Need-change-from-requires Inv-loop μ-loop
+change-from-requires c κs =
     let l = c .before .before .loop in
     omega (arith, l .inv .0, l .inv .3, l .inv .4, c .before .before .before .before .before .before .before .before .before .before .pre, length-part (l .w) (l .words))
 
@@ -89,20 +89,20 @@ same-length c = c .before .before .before .before .before .before .before .loop 
 same-length-2 : tie.Need-same-length-2 Inv-loop μ-loop
 same-length-2 c =
     let l = c .before .before .before .before .before .before .before .loop in
-    length-back (l .w) (l .words) (c .before .before .before .before .change-at .last .1 .1 .0) (omega (arith, l .inv .0, l .inv .3, l .inv .4, c .before .before .before .before .before .before .before .before .before .before .before .before .before .before .before .pre)) (c .before .before .before .before .change-at .kept .1 .1 .0) ∙ l .inv .3
+    length-back (l .w) (l .words) (c .before .before .before .before .change-from .last .1 .1 .0) (omega (arith, l .inv .0, l .inv .3, l .inv .4, c .before .before .before .before .before .before .before .before .before .before .before .before .before .before .before .pre)) (c .before .before .before .before .change-from .kept .1 .1 .0) ∙ l .inv .3
 
 returns-2 : tie.Need-returns-2 Inv-loop μ-loop
 returns-2 c =
     let a = c .before .before .before .before .before .before .before .before .before .before .before .before .before .before .before .args in
     let l = c .before .before .before .before .before .before .before .loop in
     let (cs, small, stands, count, words, kept) = l .inv .5 in
-    let refused = subst (ChangeAt _ _ _) (c .enum-told2 .given .1) (c .before .before .before .before .change-at .ensures) in
+    let refused = subst (ChangeAt _ _ _) (c .enum-told2 .given .1) (c .before .before .before .before .change-from .ensures) in
     subst (FirstBad (linesOf (a .text .now))) (omega (arith, count)) (bad-change (a .text .now) (c .before .before .before .before .before .before .before .before .before .n .given .0 .0) cs (drop (l .i) (a .text .now)) (l .inv .1) small stands (omega (arith, length-drop (l .i) (a .text .now), c .before .before .before .before .before .before .loop-test .taken)) refused)
 
 -- the line of a change, where it was read
 line : (c : tie.After-known-told2 Inv-loop μ-loop)
-    → ChangeAt (c .before .before .before .before .before .before .before .before .before .before .before .before .before .before .before .before .args .text .now) (c .before .before .before .before .before .before .before .before .loop .i) (c .before .before .before .before .before .change-at .last .1 .1 .0) (Line (c .before .code .given .0 .0) (c .before .code .given .0 .1 .0) (c .before .code .given .0 .1 .1 .0) (c .before .code .given .0 .1 .1 .1 .0) (c .before .code .given .0 .1 .1 .1 .1 .0))
-line c = subst (ChangeAt _ _ _) (c .before .code .given .1) (c .before .before .before .before .before .change-at .ensures)
+    → ChangeAt (c .before .before .before .before .before .before .before .before .before .before .before .before .before .before .before .before .args .text .now) (c .before .before .before .before .before .before .before .before .loop .i) (c .before .before .before .before .before .change-from .last .1 .1 .0) (Line (c .before .code .given .0 .0) (c .before .code .given .0 .1 .0) (c .before .code .given .0 .1 .1 .0) (c .before .code .given .0 .1 .1 .1 .0) (c .before .code .given .0 .1 .1 .1 .1 .0))
+line c = subst (ChangeAt _ _ _) (c .before .code .given .1) (c .before .before .before .before .before .change-from .ensures)
 
 mul-put-head : tie.Need-mul-put-head Inv-loop μ-loop
 mul-put-head c = let v = c .before .before .before .before .before .before .before .before .before .loop .inv in record { fits = omega (arith, v .0, v .4, c .before .before .before .before .before .before .before .before .before .before .before .before .before .before .before .before .before .pre .0) }
@@ -114,10 +114,10 @@ put-head-requires : tie.Need-put-head-requires Inv-loop μ-loop
 put-head-requires c κs = let v = c .before .before .before .before .before .before .before .before .before .loop .inv in omega (arith, v .0, v .2, v .4, c .before .before .before .before .before .before .before .before .loop-test .taken, c .before .before .before .before .before .before .before .before .before .before .before .before .before .before .before .before .before .pre)
 
 -- the words that came back are the change's
-few : (c : tie.After-known-told2 Inv-loop μ-loop) → length (take (c .before .code .given .0 .1 .1 .1 .0) (c .before .before .before .before .before .change-at .last .1 .1 .0)) ≡ c .before .code .given .0 .1 .1 .1 .0
+few : (c : tie.After-known-told2 Inv-loop μ-loop) → length (take (c .before .code .given .0 .1 .1 .1 .0) (c .before .before .before .before .before .change-from .last .1 .1 .0)) ≡ c .before .code .given .0 .1 .1 .1 .0
 few c =
     let l = c .before .before .before .before .before .before .before .before .loop in
-    length-take-le _ (c .before .before .before .before .before .change-at .last .1 .1 .0) (omega (arith, line c .0, c .before .before .before .before .before .change-at .kept .1 .1 .0, l .inv .0, l .inv .3, l .inv .4, c .before .before .before .before .before .before .before .before .before .before .before .before .before .before .before .before .pre, length-part (l .w) (l .words)))
+    length-take-le _ (c .before .before .before .before .before .change-from .last .1 .1 .0) (omega (arith, line c .0, c .before .before .before .before .before .change-from .kept .1 .1 .0, l .inv .0, l .inv .3, l .inv .4, c .before .before .before .before .before .before .before .before .before .before .before .before .before .before .before .before .pre, length-part (l .w) (l .words)))
 
 -- how far the reader got
 past : (c : tie.After-slice-known4 Inv-loop μ-loop)
@@ -140,11 +140,11 @@ loop-again c =
     let (cs, small, stands, count, words, kept) = l .inv .5 in
     let f = line (c .before .before .before .before) .1 in
     let g = c .before .before .before .before .before .code .given .0 in
-    let x = readAs (g .0) (g .1 .0) (g .1 .1 .0) (g .1 .1 .1 .0) (c .before .before .before .before .before .before .before .before .before .change-at .last .1 .1 .0) in (
+    let x = readAs (g .0) (g .1 .0) (g .1 .1 .0) (g .1 .1 .1 .0) (c .before .before .before .before .before .before .before .before .before .change-from .last .1 .1 .0) in (
       f .within,
       l .inv .1,
       c .before .before .put-head .kept .0 ∙ l .inv .2,
-      length-back (l .w) (l .words) (c .before .before .before .before .before .before .before .before .before .change-at .last .1 .1 .0) (omega (arith, l .inv .0, l .inv .3, l .inv .4, c .before .before .before .before .before .before .before .before .before .before .before .before .before .before .before .before .before .before .before .before .pre)) (c .before .before .before .before .before .before .before .before .before .change-at .kept .1 .1 .0) ∙ l .inv .3,
+      length-back (l .w) (l .words) (c .before .before .before .before .before .before .before .before .before .change-from .last .1 .1 .0) (omega (arith, l .inv .0, l .inv .3, l .inv .4, c .before .before .before .before .before .before .before .before .before .before .before .before .before .before .before .before .before .before .before .before .pre)) (c .before .before .before .before .before .before .before .before .before .change-from .kept .1 .1 .0) ∙ l .inv .3,
       omega (arith, past c, l .inv .4),
       (
         cs ++ (x ∷ []),
@@ -152,9 +152,9 @@ loop-again c =
         trace-more (a .text .now) (c .before .before .before .before .before .before .before .before .before .before .before .before .before .before .n .given .0 .0) cs x (drop (l .i) (a .text .now)) _ stands (f .stands),
         omega (arith, count, length-snoc cs x),
         omega (arith, words, total-more cs x, few (c .before .before .before .before)),
-        subst (λ (h : List ℕ). Kept h (back (l .w) (l .words) (c .before .before .before .before .before .before .before .before .before .change-at .last .1 .1 .0)) (cs ++ (x ∷ [])))
+        subst (λ (h : List ℕ). Kept h (back (l .w) (l .words) (c .before .before .before .before .before .before .before .before .before .change-from .last .1 .1 .0)) (cs ++ (x ∷ [])))
             (ap (λ (m : ℕ). over (4 * l .k) (g .0 ∷ (g .1 .0 ∷ (g .1 .1 .0 ∷ (m ∷ [])))) (l .heads)) (few (c .before .before .before .before)) ∙ sym (c .before .before .put-head .ensures))
-            (kept-more (l .heads) (l .words) (c .before .before .before .before .before .before .before .before .before .change-at .last .1 .1 .0) cs x (4 * l .k) (l .w) kept (ap (λ (m : ℕ). 4 * m) count) words (ap (λ (m : ℕ). take m (c .before .before .before .before .before .before .before .before .before .change-at .last .1 .1 .0)) (few (c .before .before .before .before)))),
+            (kept-more (l .heads) (l .words) (c .before .before .before .before .before .before .before .before .before .change-from .last .1 .1 .0) cs x (4 * l .k) (l .w) kept (ap (λ (m : ℕ). 4 * m) count) words (ap (λ (m : ℕ). take m (c .before .before .before .before .before .before .before .before .before .change-from .last .1 .1 .0)) (few (c .before .before .before .before)))),
       ),
     )
 
@@ -180,16 +180,16 @@ read-spec =
     (tie.spec
     Inv-loop
     μ-loop
-    rack-at-requires
+    rack-from-requires
     enum-known-n
     enum-told
     returns
     loop-holds
-    mul-change-at
-    sub-change-at
-    part-change-at-start
-    part-change-at-end
-    change-at-requires
+    mul-change-from
+    sub-change-from
+    part-change-from-start
+    part-change-from-end
+    change-from-requires
     enum-known-code
     enum-told-2
     add-t22

@@ -1,0 +1,2 @@
+-- Where a reader stands after a line.
+pub mod Place
