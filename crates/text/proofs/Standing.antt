@@ -9,18 +9,12 @@ use lib.ListN.{length, getD, take, drop, length-append, length-drop, drop-of-len
 use lib.Seq.{getD-drop, drop-cons, take-suc}
 use Rattle.model.specs.Text.{decimal}
 use Rattle.text.specs.Number.{isDigit, NoDigit}
-use Rattle.text.proofs.Decimals.{decimal-small, decimal-snoc, digit-below, digit-above}
+use Rattle.text.proofs.Decimals.{decimal-small, decimal-snoc, digit-below}
 
 -- A number at a position of a text.
 
 pub front-of-drop : (s : List ℕ) (i : ℕ) → getD (drop i s) 0 0 ≡ getD s i 0
 front-of-drop s i = getD-drop i s 0 0 ∙ ap (λ (k : ℕ). getD s k 0) (add-zero i)
-
-pub ends-below : (s : List ℕ) (i : ℕ) → getD s i 0 < 48 → NoDigit (drop i s)
-ends-below s i h = ap isDigit (front-of-drop s i) ∙ digit-below (getD s i 0) h
-
-pub ends-above : (s : List ℕ) (i : ℕ) → 57 < getD s i 0 → NoDigit (drop i s)
-ends-above s i h = ap isDigit (front-of-drop s i) ∙ digit-above (getD s i 0) h
 
 pub ends-out : (s : List ℕ) (i : ℕ) → length s ≤ i → NoDigit (drop i s)
 ends-out s i h = ap (λ (l : List ℕ). isDigit (getD l 0 0)) (drop-of-length-le s h) ∙ digit-below 0 (omega arith)

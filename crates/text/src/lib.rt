@@ -19,6 +19,13 @@ pub enum Literal {
     NoLiteral,
 }
 
+// The digit that b is, or more than 9: one difference and one comparison test a byte, and its digit is there.
+fn digit(b: u8) -> u32
+    ensures { λ r. ⌜ DigitOf b r ⌝ }
+{
+    std::num::wrapping_sub_u32(b as u32, 48)
+}
+
 // "A number is in decimal digits, 0 to 4,294,967,295, no leading zero": reads digits up to a byte that is none.
 pub fn number_at(s: &[u8], at: usize) -> Number
     ensures { λ r. ⌜ NumberAt (now (s .entry)) at r ⌝ }
@@ -26,40 +33,27 @@ pub fn number_at(s: &[u8], at: usize) -> Number
     if s.len() <= at {
         return Number::NoNumber;
     }
-    let first = s[at];
-    if first < 48 {
+    let first = digit(s[at]);
+    if 9 < first {
         return Number::NoNumber;
     }
-    if 57 < first {
-        return Number::NoNumber;
-    }
-    let mut v = (first - 48) as u64;
+    let mut v = first as u64;
     let mut i = at + 1;
     while i < s.len() {
-        let b = s[i];
-        if b < 48 {
-            return Number::Value(v as u32, i);
-        }
-        if 57 < b {
+        let d = digit(s[i]);
+        if 9 < d {
             return Number::Value(v as u32, i);
         }
         if v == 0 {
             return Number::NoNumber;
         }
-        v = v * 10 + (b - 48) as u64;
+        v = v * 10 + d as u64;
         if 4294967295 < v {
             return Number::NoNumber;
         }
         i += 1;
     }
     Number::Value(v as u32, i)
-}
-
-// The digit that b is, or more than 9: one difference and one comparison test a byte, and its digit is there.
-fn digit(b: u8) -> u32
-    ensures { λ r. ⌜ DigitOf b r ⌝ }
-{
-    std::num::wrapping_sub_u32(b as u32, 48)
 }
 
 // The same as number_at, where eleven bytes or more are left: ten digits and what follows them need no test whether the text has ended, and
