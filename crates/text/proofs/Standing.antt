@@ -62,10 +62,13 @@ literal-turn s at p k e h l b =
     ∙ sym (append-assoc (take k p) (getD p k 0 ∷ []) (drop (at + (k + 1)) s))
     ∙ ap (λ (u : List ℕ). u ++ drop (at + (k + 1)) s) (sym (take-suc p k 0 h) ∙ ap (λ (m : ℕ). take m p) (sym (add-one k)))
 
+-- where p stands, its bytes do
+pub literal-same : (s : List ℕ) (at : ℕ) (p : List ℕ) (k : ℕ) (rest : List ℕ) → k < length p → drop at s ≡ p ++ rest → getD s (at + k) 0 ≡ getD p k 0
+literal-same s at p k rest h e = sym (getD-drop at s k 0) ∙ ap (λ (l : List ℕ). getD l k 0) e ∙ List·getD-append p rest 0 k h
+
 -- p does not stand where a byte differs, or where too few bytes are left
 pub literal-differs : (s : List ℕ) (at : ℕ) (p : List ℕ) (k : ℕ) (rest : List ℕ) → k < length p → (getD s (at + k) 0 ≡ getD p k 0 → ⊥) → drop at s ≡ p ++ rest → ⊥
-literal-differs s at p k rest h d e =
-    d (sym (getD-drop at s k 0) ∙ ap (λ (l : List ℕ). getD l k 0) e ∙ List·getD-append p rest 0 k h)
+literal-differs s at p k rest h d e = d (literal-same s at p k rest h e)
 
 pub literal-short : (s : List ℕ) (at : ℕ) (p : List ℕ) (rest : List ℕ) → length s - at < length p → drop at s ≡ p ++ rest → ⊥
 literal-short s at p rest h e = omega (arith, simp (length-drop, length-append) at (ap length e))

@@ -4,7 +4,7 @@ ghost use Prim.Native.Nat.{_+_, _≤_, _<_};
 ghost use lib.ListN.{length};
 ghost use Rattle.model.specs.Text.{decimal};
 ghost use Rattle.text.specs.Number.{DigitOf, Begins, NumberAt};
-ghost use Rattle.text.specs.Literal.{LiteralAt};
+ghost use Rattle.text.specs.Literal.{Starts, Joined, FourAt, LiteralAt};
 ghost use Rattle.text.specs.Writing.{Put};
 
 // The number that stands there, and the position after it.
@@ -106,7 +106,7 @@ fn tenth(s: &[u8], at: usize, v: u32) -> Number
     Number::Value(w as u32, at + 10)
 }
 
-// Reads the fixed text p. An empty one would stand even past the end, so none is asked for.
+// Reads the fixed text p, four bytes at a time as long as it has four more. An empty one would stand even past the end, so none is asked for.
 pub fn literal_at(s: &[u8], at: usize, p: &[u8]) -> Literal
     requires { ⌜ 0 < length (now p) ⌝ }
     ensures { λ r. ⌜ LiteralAt (now (s .entry)) at (now (p .entry)) r ⌝ }
@@ -118,6 +118,23 @@ pub fn literal_at(s: &[u8], at: usize, p: &[u8]) -> Literal
         return Literal::NoLiteral;
     }
     let mut k = 0;
+    while 4 <= p.len() - k {
+        if four(s, at + k) != four(p, k) {
+            return Literal::NoLiteral;
+        }
+        k += 4;
+    }
+    rest_at(s, at, p, k)
+}
+
+// Goes on byte by byte after the first bytes of p, which stand there.
+fn rest_at(s: &[u8], at: usize, p: &[u8], from: usize) -> Literal
+    requires { ⌜ at + length (now p) ≤ length (now s) ⌝ }
+    requires { ⌜ from ≤ length (now p) ⌝ }
+    requires { ⌜ Starts (now s) at (now p) from ⌝ }
+    ensures { λ r. ⌜ LiteralAt (now (s .entry)) at (now (p .entry)) r ⌝ }
+{
+    let mut k = from;
     while k < p.len() {
         if s[at + k] != p[k] {
             return Literal::NoLiteral;
@@ -125,6 +142,21 @@ pub fn literal_at(s: &[u8], at: usize, p: &[u8]) -> Literal
         k += 1;
     }
     Literal::Next(at + k)
+}
+
+// The four bytes from i on as one number.
+fn four(s: &[u8], i: usize) -> u32
+    requires { ⌜ i + 4 ≤ length (now s) ⌝ }
+    ensures { λ r. ⌜ FourAt (now (s .entry)) i r ⌝ }
+{
+    join(s[i], s[i + 1], s[i + 2], s[i + 3])
+}
+
+// Taken as parameters the bytes have their range, so nothing is left to prove of them.
+fn join(a: u8, b: u8, c: u8, d: u8) -> u32
+    ensures { λ r. ⌜ Joined a b c d r ⌝ }
+{
+    a as u32 + 256 * (b as u32) + 65536 * (c as u32) + 16777216 * (d as u32)
 }
 
 // Writes n in decimal, and answers how many bytes that is.
