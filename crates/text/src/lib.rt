@@ -57,7 +57,7 @@ pub fn number_at(s: &[u8], at: usize) -> Number
 }
 
 // The same as number_at, where eleven bytes or more are left: ten digits and what follows them need no test whether the text has ended, and
-// nine digits none whether they fit.
+// nine digits none whether they fit. Only the reader of words calls it, so that it is compiled into that reader's loop.
 pub fn number_within(s: &[u8], at: usize) -> Number
     requires { ⌜ at + 11 ≤ length (now s) ⌝ }
     ensures { λ r. ⌜ NumberAt (now (s .entry)) at r ⌝ }
