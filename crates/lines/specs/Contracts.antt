@@ -37,7 +37,7 @@ abbrev pub EndsAt : List ℕ → ℕ → EndsRead → Type 0
 EndsAt s at (Pair a b next) = Found endsText FitEnds s at (record { a = a; b = b }) next
 EndsAt s at NoPair = Absent endsText FitEnds s at
 
--- the word after the space at `at`; or that none stands there, or a space that no number follows
+-- the word after the space at `at`; or that no space stands there, or one that no number follows
 abbrev pub WordAt : List ℕ → ℕ → WordRead → Type 0
 WordAt s at (Word w next) = (getD s at 0 ≡ 32) × NumberAt s (at + 1) (Value w next)
 WordAt s at NoSpace = getD s at 0 ≡ 32 → ⊥

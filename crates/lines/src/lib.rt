@@ -103,7 +103,7 @@ fn word_within(text: &[u8], at: usize) -> WordRead
     WordRead::Word(w, next)
 }
 
-// Reads a space and a word wherever that is.
+// The same at any position.
 fn word_near_end(text: &[u8], at: usize) -> WordRead
     ensures { λ r. ⌜ WordAt (now (text .entry)) at r ⌝ }
 {
@@ -119,7 +119,7 @@ fn word_near_end(text: &[u8], at: usize) -> WordRead
     WordRead::Word(w, next)
 }
 
-// The same, by the quicker of the two: only the last words of a text are near its end.
+// The quicker of the two where it may be used: only the last word or two of a text are near its end.
 fn word_at(text: &[u8], at: usize) -> WordRead
     ensures { λ r. ⌜ WordAt (now (text .entry)) at r ⌝ }
 {

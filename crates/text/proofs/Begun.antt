@@ -31,12 +31,12 @@ next-digit s at i v d e h p f k =
     let q : getD s i 0 - 48 ≡ d = omega arith in
     digit-turn s at i v e h p (omega arith) (omega arith) ∙ ap (λ (x : ℕ). decimal (v * 10 + x) ++ drop (i + 1) s) q
 
--- the digit 0 and a digit more
-pub zero-first : (s : List ℕ) (at v d : ℕ) → at + 1 < length s → DigitOf (getD s at 0) v → v ≡ 0 → DigitOf (getD s (at + 1) 0) d → d ≤ 9
+-- the number 0 and a digit more
+pub zero-first : (s : List ℕ) (at i v d : ℕ) → drop at s ≡ decimal v ++ drop i s → i < length s → v ≡ 0 → DigitOf (getD s i 0) d → d ≤ 9
     → (n : ℕ) (rest : List ℕ) → NumberThen (drop at s) n rest → ⊥
-zero-first s at v d h f z g k n rest w =
-    let b = g .is k in
-    leading-zero _ _ (digit-zero s at (at + 1) v (one-digit s at v (omega arith) f (omega arith)) h z) (digit-in _ (omega arith) (omega arith)) w
+zero-first s at i v d e h z f k n rest w =
+    let b = f .is k in
+    leading-zero _ _ (digit-zero s at i v e h z) (digit-in _ (omega arith) (omega arith)) w
 
 -- two digits, the first of them not 0
 pub begins-two : (s : List ℕ) (at v d : ℕ) → at + 1 < length s → DigitOf (getD s at 0) v → v ≤ 9 → 0 < v → DigitOf (getD s (at + 1) 0) d → d ≤ 9

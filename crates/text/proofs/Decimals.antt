@@ -57,7 +57,7 @@ pub digit-below : (b : ℕ) → b < 48 → isDigit b ≡ false
 unfolding isDigit
 digit-below b h = simp (lt-leb _ _ h)
 
-pub digit-above : (b : ℕ) → 57 < b → isDigit b ≡ false
+digit-above : (b : ℕ) → 57 < b → isDigit b ≡ false
 unfolding isDigit
 digit-above b h = elim (le? 48 b) [ inr p ↦ digit-below b p | inl p ↦ simp (le-leb 48 b p, lt-leb b 57 h) ]
 

@@ -2,6 +2,7 @@
 pub mod Decimals
 pub mod Standing
 pub mod Begun
+pub mod Fours
 pub mod Over
 pub mod Texts
 pub mod Lengths

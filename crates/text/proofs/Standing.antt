@@ -9,18 +9,12 @@ use lib.ListN.{length, getD, take, drop, length-append, length-drop, drop-of-len
 use lib.Seq.{getD-drop, drop-cons, take-suc}
 use Rattle.model.specs.Text.{decimal}
 use Rattle.text.specs.Number.{isDigit, NoDigit}
-use Rattle.text.proofs.Decimals.{decimal-small, decimal-snoc, digit-below, digit-above}
+use Rattle.text.proofs.Decimals.{decimal-small, decimal-snoc, digit-below}
 
 -- A number at a position of a text.
 
 pub front-of-drop : (s : List ℕ) (i : ℕ) → getD (drop i s) 0 0 ≡ getD s i 0
 front-of-drop s i = getD-drop i s 0 0 ∙ ap (λ (k : ℕ). getD s k 0) (add-zero i)
-
-pub ends-below : (s : List ℕ) (i : ℕ) → getD s i 0 < 48 → NoDigit (drop i s)
-ends-below s i h = ap isDigit (front-of-drop s i) ∙ digit-below (getD s i 0) h
-
-pub ends-above : (s : List ℕ) (i : ℕ) → 57 < getD s i 0 → NoDigit (drop i s)
-ends-above s i h = ap isDigit (front-of-drop s i) ∙ digit-above (getD s i 0) h
 
 pub ends-out : (s : List ℕ) (i : ℕ) → length s ≤ i → NoDigit (drop i s)
 ends-out s i h = ap (λ (l : List ℕ). isDigit (getD l 0 0)) (drop-of-length-le s h) ∙ digit-below 0 (omega arith)
@@ -68,10 +62,13 @@ literal-turn s at p k e h l b =
     ∙ sym (append-assoc (take k p) (getD p k 0 ∷ []) (drop (at + (k + 1)) s))
     ∙ ap (λ (u : List ℕ). u ++ drop (at + (k + 1)) s) (sym (take-suc p k 0 h) ∙ ap (λ (m : ℕ). take m p) (sym (add-one k)))
 
+-- where p stands, its bytes do
+pub literal-same : (s : List ℕ) (at : ℕ) (p : List ℕ) (k : ℕ) (rest : List ℕ) → k < length p → drop at s ≡ p ++ rest → getD s (at + k) 0 ≡ getD p k 0
+literal-same s at p k rest h e = sym (getD-drop at s k 0) ∙ ap (λ (l : List ℕ). getD l k 0) e ∙ List·getD-append p rest 0 k h
+
 -- p does not stand where a byte differs, or where too few bytes are left
 pub literal-differs : (s : List ℕ) (at : ℕ) (p : List ℕ) (k : ℕ) (rest : List ℕ) → k < length p → (getD s (at + k) 0 ≡ getD p k 0 → ⊥) → drop at s ≡ p ++ rest → ⊥
-literal-differs s at p k rest h d e =
-    d (sym (getD-drop at s k 0) ∙ ap (λ (l : List ℕ). getD l k 0) e ∙ List·getD-append p rest 0 k h)
+literal-differs s at p k rest h d e = d (literal-same s at p k rest h e)
 
 pub literal-short : (s : List ℕ) (at : ℕ) (p : List ℕ) (rest : List ℕ) → length s - at < length p → drop at s ≡ p ++ rest → ⊥
 literal-short s at p rest h e = omega (arith, simp (length-drop, length-append) at (ap length e))

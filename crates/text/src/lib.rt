@@ -4,7 +4,7 @@ ghost use Prim.Native.Nat.{_+_, _≤_, _<_};
 ghost use lib.ListN.{length};
 ghost use Rattle.model.specs.Text.{decimal};
 ghost use Rattle.text.specs.Number.{DigitOf, Begins, NumberAt};
-ghost use Rattle.text.specs.Literal.{LiteralAt};
+ghost use Rattle.text.specs.Literal.{Starts, Joined, FourAt, LiteralAt};
 ghost use Rattle.text.specs.Writing.{Put};
 
 // The number that stands there, and the position after it.
@@ -19,6 +19,13 @@ pub enum Literal {
     NoLiteral,
 }
 
+// The digit that b is, or more than 9: one difference and one comparison test a byte, and its digit is there.
+fn digit(b: u8) -> u32
+    ensures { λ r. ⌜ DigitOf b r ⌝ }
+{
+    std::num::wrapping_sub_u32(b as u32, 48)
+}
+
 // "A number is in decimal digits, 0 to 4,294,967,295, no leading zero": reads digits up to a byte that is none.
 pub fn number_at(s: &[u8], at: usize) -> Number
     ensures { λ r. ⌜ NumberAt (now (s .entry)) at r ⌝ }
@@ -26,27 +33,21 @@ pub fn number_at(s: &[u8], at: usize) -> Number
     if s.len() <= at {
         return Number::NoNumber;
     }
-    let first = s[at];
-    if first < 48 {
+    let first = digit(s[at]);
+    if 9 < first {
         return Number::NoNumber;
     }
-    if 57 < first {
-        return Number::NoNumber;
-    }
-    let mut v = (first - 48) as u64;
+    let mut v = first as u64;
     let mut i = at + 1;
     while i < s.len() {
-        let b = s[i];
-        if b < 48 {
-            return Number::Value(v as u32, i);
-        }
-        if 57 < b {
+        let d = digit(s[i]);
+        if 9 < d {
             return Number::Value(v as u32, i);
         }
         if v == 0 {
             return Number::NoNumber;
         }
-        v = v * 10 + (b - 48) as u64;
+        v = v * 10 + d as u64;
         if 4294967295 < v {
             return Number::NoNumber;
         }
@@ -55,15 +56,8 @@ pub fn number_at(s: &[u8], at: usize) -> Number
     Number::Value(v as u32, i)
 }
 
-// The digit that b is, or more than 9: one difference and one comparison test a byte, and its digit is there.
-fn digit(b: u8) -> u32
-    ensures { λ r. ⌜ DigitOf b r ⌝ }
-{
-    std::num::wrapping_sub_u32(b as u32, 48)
-}
-
 // The same as number_at, where eleven bytes or more are left: ten digits and what follows them need no test whether the text has ended, and
-// nine digits none whether they fit.
+// nine digits none whether they fit. Only the reader of words calls it, so that it is compiled into that reader's loop.
 pub fn number_within(s: &[u8], at: usize) -> Number
     requires { ⌜ at + 11 ≤ length (now s) ⌝ }
     ensures { λ r. ⌜ NumberAt (now (s .entry)) at r ⌝ }
@@ -112,7 +106,7 @@ fn tenth(s: &[u8], at: usize, v: u32) -> Number
     Number::Value(w as u32, at + 10)
 }
 
-// Reads the fixed text p. An empty one would stand even past the end, so none is asked for.
+// Reads the fixed text p, four bytes at a time as long as it has four more. An empty one would stand even past the end, so none is asked for.
 pub fn literal_at(s: &[u8], at: usize, p: &[u8]) -> Literal
     requires { ⌜ 0 < length (now p) ⌝ }
     ensures { λ r. ⌜ LiteralAt (now (s .entry)) at (now (p .entry)) r ⌝ }
@@ -124,6 +118,23 @@ pub fn literal_at(s: &[u8], at: usize, p: &[u8]) -> Literal
         return Literal::NoLiteral;
     }
     let mut k = 0;
+    while 4 <= p.len() - k {
+        if four(s, at + k) != four(p, k) {
+            return Literal::NoLiteral;
+        }
+        k += 4;
+    }
+    rest_at(s, at, p, k)
+}
+
+// Goes on byte by byte after the first bytes of p, which stand there.
+fn rest_at(s: &[u8], at: usize, p: &[u8], from: usize) -> Literal
+    requires { ⌜ at + length (now p) ≤ length (now s) ⌝ }
+    requires { ⌜ from ≤ length (now p) ⌝ }
+    requires { ⌜ Starts (now s) at (now p) from ⌝ }
+    ensures { λ r. ⌜ LiteralAt (now (s .entry)) at (now (p .entry)) r ⌝ }
+{
+    let mut k = from;
     while k < p.len() {
         if s[at + k] != p[k] {
             return Literal::NoLiteral;
@@ -131,6 +142,21 @@ pub fn literal_at(s: &[u8], at: usize, p: &[u8]) -> Literal
         k += 1;
     }
     Literal::Next(at + k)
+}
+
+// The four bytes from i on as one number.
+fn four(s: &[u8], i: usize) -> u32
+    requires { ⌜ i + 4 ≤ length (now s) ⌝ }
+    ensures { λ r. ⌜ FourAt (now (s .entry)) i r ⌝ }
+{
+    join(s[i], s[i + 1], s[i + 2], s[i + 3])
+}
+
+// Taken as parameters the bytes have their range, so nothing is left to prove of them.
+fn join(a: u8, b: u8, c: u8, d: u8) -> u32
+    ensures { λ r. ⌜ Joined a b c d r ⌝ }
+{
+    a as u32 + 256 * (b as u32) + 65536 * (c as u32) + 16777216 * (d as u32)
 }
 
 // Writes n in decimal, and answers how many bytes that is.

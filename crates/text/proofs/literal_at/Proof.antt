@@ -1,53 +1,55 @@
 -- `text::literal_at` meets its contract. The invariant: the first k bytes of p stand at `at`.
 -- Assumes nothing.
-use Prim.Native.Nat.{ℕ, _+_, _-_, _≤_}
-use mathlib.Core.Path.{_≡_, ap, _∙_}
-use mathlib.Core.List.{List, _++_}
+use Prim.Native.Nat.{_-_, _≤_}
 use native.Mathlib.Omega.{arith}
-use lib.ListN.{length, take, drop}
-use lib.Seq.{take-all}
-use Rattle.text.proofs.Standing.{literal-start, literal-turn, literal-differs, literal-short}
+use lib.ListN.{length}
+use Rattle.text.specs.Literal.{Starts}
+use Rattle.text.proofs.Standing.{literal-start, literal-short}
+use Rattle.text.proofs.Fours.{four-turn, four-differs}
 use Rattle.text.proofs.literal_at.Statement.{statement}
 use Rattle.text.proofs.literal_at.Tie as tie
 
 abbrev Inv-loop : tie.InvT-loop
-Inv-loop s at p k₀ k = (k ≤ length p) × (drop at s ≡ take k p ++ drop (at + k) s)
+Inv-loop s at p k₀ k = (k ≤ length p) × Starts s at p k
 
 abbrev μ-loop : tie.MeasureT-loop
 μ-loop s at p k₀ k = length p - k
 
 returns : tie.Need-returns Inv-loop μ-loop
 returns c =
-    let a = c .before .args in
-    λ rest e. literal-short (a .s .now) (a .at) (a .p .now) rest (omega (arith, c .before .pre)) e
+    let a = c .before .before .before .args in
+    λ rest e. literal-short (a .s .now) (a .at) (a .p .now) rest (omega (arith, c .before .before .before .pre)) e
 
 sub-if2 : tie.Need-sub-if2 Inv-loop μ-loop
 sub-if2 c = omega arith
 
 returns-2 : tie.Need-returns-2 Inv-loop μ-loop
 returns-2 c =
-    let a = c .before .before .args in
+    let a = c .before .before .before .before .args in
     λ rest e. literal-short (a .s .now) (a .at) (a .p .now) rest (c .if2 .taken) e
 
 loop-holds : tie.Need-loop-holds Inv-loop μ-loop
 loop-holds c =
-    let a = c .before .before .args in
+    let a = c .before .before .before .before .args in
     (omega arith, literal-start (a .s .now) (a .at) (a .p .now))
 
-add-if3 : tie.Need-add-if3 Inv-loop μ-loop
-add-if3 c = omega arith
+sub-loop : tie.Need-sub-loop Inv-loop μ-loop
+sub-loop c = omega arith
 
-shared-slice-read-if3 : tie.Need-shared-slice-read-if3 Inv-loop μ-loop
-shared-slice-read-if3 c = omega arith
+add-four : tie.Need-add-four Inv-loop μ-loop
+add-four c = omega arith
 
-shared-slice-read-if3-2 : tie.Need-shared-slice-read-if3-2 Inv-loop μ-loop
-shared-slice-read-if3-2 c = omega arith
+four-requires : tie.Need-four-requires Inv-loop μ-loop
+four-requires c κs = omega arith
+
+four-requires-2 : tie.Need-four-requires-2 Inv-loop μ-loop
+four-requires-2 c κs = omega arith
 
 returns-3 : tie.Need-returns-3 Inv-loop μ-loop
 returns-3 c =
-    let a = c .before .before .before .before .before .before .before .args in
+    let a = c .before .before .before .before .before .before .before .before .before .args in
     let l = c .before .before .before .before .loop in
-    λ rest e. literal-differs (a .s .now) (a .at) (a .p .now) (l .k) rest (omega arith) (c .if3 .taken) e
+    λ rest e. four-differs (a .s .now) (a .at) (a .p .now) (l .k) _ _ rest (omega arith) (c .before .before .four .ensures) (c .before .four2 .ensures) (c .if3 .taken) e
 
 add-k : tie.Need-add-k Inv-loop μ-loop
 add-k c = omega arith
@@ -57,18 +59,15 @@ loop-less c = omega arith
 
 loop-again : tie.Need-loop-again Inv-loop μ-loop
 loop-again c =
-    let a = c .before .before .before .before .before .before .before .args in
+    let a = c .before .before .before .before .before .before .before .before .before .args in
     let l = c .before .before .before .before .loop in
-    (omega arith, literal-turn (a .s .now) (a .at) (a .p .now) (l .k) (l .inv .1) (omega arith) (omega arith) (c .if3 .left))
+    (omega arith, four-turn (a .s .now) (a .at) (a .p .now) (l .k) _ _ (l .inv .1) (omega arith) (omega arith) (c .before .before .four .ensures) (c .before .four2 .ensures) (c .if3 .left))
 
-add-t5 : tie.Need-add-t5 Inv-loop μ-loop
-add-t5 c = omega arith
+rest-at-requires : tie.Need-rest-at-requires Inv-loop μ-loop
+rest-at-requires c κs = (omega arith, (c .before .loop .inv .0, c .before .loop .inv .1))
 
 returns-4 : tie.Need-returns-4 Inv-loop μ-loop
-returns-4 c =
-    let a = c .before .before .before .before .args in
-    let l = c .before .loop in
-    (omega arith, l .inv .1 ∙ ap (λ (u : List ℕ). u ++ drop (a .at + l .k) (a .s .now)) (take-all (l .k) (a .p .now) (c .loop-test .left)))
+returns-4 c = c .rest-at .ensures
 
 pub literal-at-spec : {M : Type 1} → statement M
 literal-at-spec =
@@ -80,12 +79,13 @@ literal-at-spec =
     sub-if2
     returns-2
     loop-holds
-    add-if3
-    shared-slice-read-if3
-    shared-slice-read-if3-2
+    sub-loop
+    add-four
+    four-requires
+    four-requires-2
     returns-3
     add-k
     loop-less
     loop-again
-    add-t5
+    rest-at-requires
     returns-4)

@@ -53,7 +53,7 @@ returns-2 c =
 returns-3 : tie.Need-returns-3 Inv-loop μ-loop
 returns-3 c =
     let a = c .before .before .before .before .before .before .before .before .args in
-    λ n rest h. begun.zero-first (a .s .now) (a .at) _ _ (omega (arith, c .before .before .before .before .before .before .before .before .pre)) (c .before .before .before .before .before .digit .ensures) (omega arith) (c .before .before .digit2 .ensures) (omega arith) n rest h
+    λ n rest h. begun.zero-first (a .s .now) (a .at) (a .at + 1) _ _ (begun.one-digit (a .s .now) (a .at) _ (omega (arith, c .before .before .before .before .before .before .before .before .pre)) (c .before .before .before .before .before .digit .ensures) (omega arith)) (omega (arith, c .before .before .before .before .before .before .before .before .pre)) (omega arith) (c .before .before .digit2 .ensures) (omega arith) n rest h
 
 mul-v : tie.Need-mul-v Inv-loop μ-loop
 mul-v c = search needs

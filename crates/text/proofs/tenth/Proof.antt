@@ -43,7 +43,7 @@ add-w c = search needs
 
 returns-2 : tie.Need-returns-2
 returns-2 c =
-    λ n rest h. decimals.too-large _ _ (ten (c .before) .stands) (c .if2 .taken) h
+    λ n rest h. decimals.too-large _ _ (ten (c .before) .stands) (omega arith) h
 
 add-digit-2 : tie.Need-add-digit-2
 add-digit-2 c = search needs
