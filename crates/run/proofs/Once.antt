@@ -3,12 +3,13 @@
 use mathlib.Core.Path.{_≡_, refl, sym, ap, _∙_, subst}
 use mathlib.Core.Logic.{_≢_, _⊎_, inl, inr}
 use mathlib.Core.Bool.{Bool, true, false}
-use mathlib.Core.List.{List}
+use mathlib.Core.List.{List, _++_}
 use Prim.Native.Nat.{ℕ, suc, _+_, _≤_}
 use native.Mathlib.Omega.{arith}
 use lib.Dec.{ltb}
-use lib.ListN.{length, take, length-take}
-use lib.Seq.{take-at}
+use lib.ListN.{length, take, drop, length-append, take-append-drop}
+use lib.Seq.{length-take-le}
+use native.Mathlib.Nat.{zero-add}
 use Rattle.model.specs.State.{Rules, base, empty}
 use Rattle.model.specs.Bytes.{write}
 use Rattle.model.specs.Sound.{sizeGood}
@@ -131,10 +132,18 @@ pub output-back : (a : RunAnswer) (space : List ℕ) → a .number ≢ 0 → out
 unfolding output
 output-back a space e = rw (eqb-no (a .number) 0 e, output) refl
 
--- what was written at the start is what stands there
-pub put-front : {p old new : List ℕ} {r : ℕ} → Put p old new r → take r new ≡ p
+-- what stands at the start is as good as written there again
+pub put-front-again : (space p : List ℕ) {r : ℕ} → p ≡ take r space → r ≤ length space → Put p space space r
 unfolding over
-put-front {p} {old} {new} {r} h = ap (take r) (h .wrote) ∙ take-at p _ r (sym (h .count))
+put-front-again space p {r} e h = record {
+  count = sym (length-take-le r space h) ∙ ap length (sym e);
+  wrote =
+      sym (take-append-drop r space)
+      ∙ ap (λ (j : ℕ). take r space ++ drop j space) (sym (zero-add r ∙ refl) ∙ refl)
+      ∙ ap (λ (j : ℕ). take r space ++ drop (0 + j) space) (sym (length-take-le r space h) ∙ ap length (sym e))
+      ∙ ap (λ (l : List ℕ). l ++ drop (0 + length p) space) (sym e);
+}
 
 pub put-within : {p old new : List ℕ} {r : ℕ} → Put p old new r → r ≤ length new
-put-within {p} {old} {new} {r} h = omega (arith, h .count, ap length (put-front h), length-take r new)
+unfolding over
+put-within {p} {old} {new} {r} h = omega (arith, h .count, ap length (h .wrote), length-append p (drop (0 + length p) old))

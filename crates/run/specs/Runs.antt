@@ -4,7 +4,7 @@ use mathlib.Core.Bool.{Bool, true, false}
 use mathlib.Core.List.{List, [], _++_}
 use Prim.Native.Nat.{ℕ, _+_, _*_, _≤_}
 use lib.Dec.{ltb}
-use lib.ListN.{length, take}
+use lib.ListN.{length}
 use Rattle.model.specs.State.{State, base, empty}
 use Rattle.model.specs.Bytes.{read, write}
 use Rattle.model.specs.Change.{Change}
@@ -66,11 +66,9 @@ Took false heads words k n rack space a last new = (a ≡ turnedBack 5 0) × (la
 abbrev pub told : RunAnswer → AnswerOf
 told r = record { number = r .number; line = r .line; length = r .length }
 
--- the first r bytes of the space are what the program prints of a run
-pub record Shown (rack text old new : List ℕ) (r : ℕ) : Type 0 where
+-- a run was made, and what the program prints of it stands at the start of the space, r bytes
+pub record Shown (rack text old last new : List ℕ) (r : ℕ) : Type 0 where
   pub answer : AnswerOf
-  pub last : List ℕ
   pub space : List ℕ
   pub ran : Ran base rack text old answer last space
-  pub within : r ≤ length new
-  pub is : take r new ≡ output answer space
+  pub prints : Put (output answer space) space new r

@@ -194,7 +194,7 @@ fn taken(
 // "prints the record, or `(bad K L)`": the text to print stands at the start of the space, and its length is the answer.
 pub fn show(rack: &mut [u8], text: &[u8], space: &mut [u8]) -> usize
     requires { ⌜ spaceLength ≤ length (now space) ⌝ }
-    ensures { λ r. ⌜ Shown (now (rack .entry)) (now (text .entry)) (now (space .entry)) (now (space .exit)) r ⌝ }
+    ensures { λ r. ⌜ Shown (now (rack .entry)) (now (text .entry)) (now (space .entry)) (now (rack .exit)) (now (space .exit)) r ⌝ }
 {
     let answer = run(rack, text, space);
     if answer.number == 0 {

@@ -1,6 +1,7 @@
 -- `rack::main` is safe and ends. The one need that is left is the length of what is printed. Assumes nothing.
 use native.Mathlib.Omega.{arith}
 use lib.ListN.{length-take}
+use Rattle.run.proofs.Once.{put-within}
 use borrow.Author.Needs.{needs}
 use Rattle.rack.proofs.main.Statement.{statement}
 use Rattle.rack.proofs.main.Tie as tie
@@ -33,7 +34,7 @@ array-share-prefix-space : tie.Need-array-share-prefix-space
 array-share-prefix-space c = search needs
 
 slice-aggregate-write-all : tie.Need-slice-aggregate-write-all
-slice-aggregate-write-all c = simp length-take (omega (arith, c .before .before .before .show .ensures .within))
+slice-aggregate-write-all c = simp length-take (omega (arith, put-within (c .before .before .before .show .ensures .prints)))
 
 write-all-requires : tie.Need-write-all-requires
 write-all-requires c κs = search needs

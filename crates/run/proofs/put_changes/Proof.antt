@@ -27,11 +27,11 @@ loop-holds : tie.Need-loop-holds Inv-loop μ-loop
 loop-holds c = going-start _ _ _ _ _ (c .before .before .before .before .pre .0) (c .before .before .before .before .pre .1)
 
 head-at-requires : tie.Need-head-at-requires Inv-loop μ-loop
-head-at-requires c κs = turn-of (c .before .loop .inv) (c .loop-test .taken) .next .heads-within
+head-at-requires c κs = turn-of (c .before .loop .inv) (omega (arith, c .loop-test .taken)) .next .heads-within
 
 -- the change whose turn it is, and how many words it has
 turn : (c : tie.After-struct-known Inv-loop μ-loop) → Turn (c .before .before .before .loop .inv)
-turn c = turn-of (c .before .before .before .loop .inv) (c .before .before .loop-test .taken)
+turn c = turn-of (c .before .before .before .loop .inv) (omega (arith, c .before .before .loop-test .taken))
 
 size : (c : tie.After-struct-known Inv-loop μ-loop) → c .before .head-at .result .count ≡ length (turn c .change .words)
 size c = c .before .head-at .ensures .count ∙ turn c .next .size

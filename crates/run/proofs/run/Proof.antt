@@ -36,7 +36,7 @@ same-length-2 c = search needs
 returns-2 : tie.Need-returns-2
 returns-2 c =
     let r = c .turned-back2 .ensures in
-    ran-as (answer-of _ (r .0) (r .1) (r .2)) refl refl (text-long (sym (c .before .before .before .sized .ensures) ∙ on _ (c .before .before .if1 .left)) (c .before .if2 .taken))
+    ran-as (answer-of _ (r .0) (r .1) (r .2)) refl refl (text-long (sym (c .before .before .before .sized .ensures) ∙ on _ (c .before .before .if1 .left)) (omega (arith, c .before .if2 .taken)))
 
 turned-back-requires-3 : tie.Need-turned-back-requires-3
 turned-back-requires-3 c κs = search needs
@@ -48,7 +48,7 @@ returns-3 : tie.Need-returns-3
 returns-3 c =
     let r = c .turned-back3 .ensures in
     ran-as (answer-of _ (r .0) (r .1) (r .2)) refl refl
-    (space-short (sym (c .before .before .before .before .sized .ensures) ∙ on _ (c .before .before .before .if1 .left)) (omega (arith, c .before .before .if2 .left)) (c .before .if3 .taken))
+    (space-short (sym (c .before .before .before .before .sized .ensures) ∙ on _ (c .before .before .before .if1 .left)) (omega (arith, c .before .before .if2 .left)) (omega (arith, c .before .if3 .taken)))
 
 -- the lengths are those that a run takes
 good : (c : tie.Else3) → (sized (c .before .before .before .before .before .before .before .before .args .rack .now) ≡ true) × (length (c .before .before .before .before .before .before .before .before .args .text .now) ≤ 16384) × (65536 ≤ length (c .before .before .before .before .before .before .before .before .args .space .now))

@@ -1,8 +1,9 @@
 -- `run::show` meets its contract. Assumes nothing.
 use mathlib.Core.Path.{sym, _∙_}
 use native.Mathlib.Omega.{arith}
+use Rattle.text.proofs.Over.{put-as}
 use Rattle.run.specs.Runs.{told}
-use Rattle.run.proofs.Once.{line-few, length-few, output-ran, output-back, put-front, put-within}
+use Rattle.run.proofs.Once.{line-few, length-few, output-ran, output-back, put-front-again}
 use borrow.Author.Needs.{needs}
 use Rattle.run.proofs.show.Statement.{statement}
 use Rattle.run.proofs.show.Tie as tie
@@ -21,11 +22,9 @@ returns c =
     let r = c .before .before .before .before .before .before .run in
     record {
       answer = told (r .result);
-      last = r .last .0;
       space = r .last .1 .1 .0;
       ran = r .ensures;
-      within = omega (arith, length-few (r .ensures), c .before .before .before .before .before .before .before .before .before .before .before .before .pre, r .kept .1 .1 .0);
-      is = sym (output-ran (told (r .result)) (r .last .1 .1 .0) (c .if1 .taken));
+      prints = put-front-again _ _ (output-ran (told (r .result)) (r .last .1 .1 .0) (c .if1 .taken)) (omega (arith, length-few (r .ensures), c .before .before .before .before .before .before .before .before .before .before .before .before .pre, r .kept .1 .1 .0));
     }
 
 cast-put-bad : tie.Need-cast-put-bad
@@ -43,14 +42,11 @@ same-length-4 c = c .before .before .put-bad .kept .0 ∙ c .before .before .bef
 returns-2 : tie.Need-returns-2
 returns-2 c =
     let r = c .before .before .before .before .before .before .before .before .before .before .before .run in
-    let w = c .before .before .put-bad in
     record {
       answer = told (r .result);
-      last = r .last .0;
       space = r .last .1 .1 .0;
       ran = r .ensures;
-      within = put-within (w .ensures);
-      is = put-front (w .ensures) ∙ sym (output-back (told (r .result)) (r .last .1 .1 .0) (c .before .before .before .before .before .if1 .left));
+      prints = put-as _ _ (sym (output-back (told (r .result)) (r .last .1 .1 .0) (c .before .before .before .before .before .if1 .left))) (c .before .before .put-bad .ensures);
     }
 
 pub show-spec : {M : Type 1} → statement M

@@ -1,6 +1,7 @@
 -- `run::taken` meets its contract. Assumes nothing.
 use mathlib.Core.Path.{refl, sym, _∙_, subst}
 use mathlib.Core.Bool.{Bool}
+use native.Mathlib.Omega.{arith}
 use Rattle.run.specs.Runs.{Took, told}
 use Rattle.run.proofs.Whole.{made-none, made-new, answer-of}
 use borrow.Author.Needs.{needs}
@@ -24,7 +25,7 @@ returns c =
     let r = c .turned-back .ensures in
     let a = c .before .before .before .before .before .before .before .before .before .before .args in
     subst (λ (b : Bool). Took b (a .heads .now) (a .words .now) (a .changes) (a .n) (a .rack .now) (a .space .now) (told (c .turned-back .result)) (c .before .before .before .before .make .last .0) (a .space .now)) (sym (n .0))
-    (answer-of _ (r .0) (r .1) (r .2), m .1 ∙ n .1, refl)
+    (answer-of _ (r .0) (omega (arith, r .1)) (r .2), m .1 ∙ n .1, refl)
 
 put-record-requires : tie.Need-put-record-requires
 put-record-requires c κs =
