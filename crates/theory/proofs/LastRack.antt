@@ -1,22 +1,22 @@
 -- What the bytes of a valid state say, with its edges as the ledger's: every fact of demand 3 about the last rack. Assumes nothing.
 use mathlib.Core.Path.{_≡_, sym, ap, _∙_, subst}
 use mathlib.Core.Logic.{_≢_, inl, inr}
-use mathlib.Core.Bool.{_&&_}
+use mathlib.Core.Bool.{not, _&&_}
 use Prim.Native.Nat.{ℕ, _*_, _≤_, _<_}
 use native.Mathlib.Omega.{arith}
-use lib.Dec.{T, leb}
+use lib.Dec.{T, leb, ltb, eqb}
 use lib.ListN.{length}
 use Rattle.model.specs.State.{State, base, edge, near, below, phi}
 use Rattle.model.specs.Bytes.{noMate, rankAt, mateAt, phiAt, write}
 use Rattle.model.specs.Valid.{Valid}
-use Rattle.model.proofs.Tests.{eq?}
+use Rattle.model.proofs.Tests.{eq?, eqb-yes, eqb-no, leb-yes, leb-no}
 use Rattle.model.proofs.Prefix.{count-ext}
-use Rattle.model.proofs.Fields.{rank-write, mate-write, phi-write}
+use Rattle.model.proofs.Fields.{size-write, rank-write, mate-write, phi-write}
 use Rattle.model.proofs.Limits.{phi-above, phi-zero, size-few, edge-inside, edge-loop, mate-inside, mateEntry-free, mateEntry-mate}
 use Rattle.model.proofs.Reading.{read-write}
-use Rattle.theory.specs.Demand.{neighboursBelow, Mates, Facts}
+use Rattle.theory.specs.Demand.{pairsOf, matedOf, neighboursBelow, Mates, Facts}
 use Rattle.theory.proofs.ChangeStep.{ledger}
-use Rattle.theory.proofs.Matching.{base-one, maximal, twice, cover}
+use Rattle.theory.proofs.Matching.{base-one, maximal, twice, cover, ranked-pairs}
 use Rattle.theory.proofs.OnBytes.{write-sized, write-good, pairs-of}
 
 module _ (s : State) (ok : Valid base s) where
@@ -64,11 +64,24 @@ module _ (s : State) (ok : Valid base s) where
   phi-below : (v j : ℕ) → v < s .n → j < 4 → rankAt (write s) v ≤ j → phiAt (write s) v j ≡ below s v j
   phi-below v j l h k = phi-write s v j (omega (arith, few)) h ∙ phi-above s v j (omega (arith, rank-is v l))
 
+  -- the mated vertices are those at level 0 or more
+  mated-is : (v : ℕ) → v < s .n → not (eqb (mateAt (write s) v) noMate) ≡ ltb 0 (s .rank v)
+  mated-is v l = elim (eq? (s .rank v) 0) [
+    | inl z ↦ ap not (eqb-yes (mateAt (write s) v) noMate (entry-free v l (ok .low-free v z))) ∙ sym (leb-no 1 (s .rank v) (omega arith))
+    | inr z ↦
+        ap not (eqb-no (mateAt (write s) v) noMate (λ e. z (ok .free-low v (free-entry v l e)))) ∙ sym (leb-yes 1 (s .rank v) (omega arith))
+  ]
+
+  twice-mated : matedOf (ledger s) (write s) ≡ 2 * pairsOf (ledger s) (write s)
+  unfolding matedOf
+  twice-mated = count-ext _ _ (s .n) mated-is ∙ ranked-pairs base s ok ∙ ap (λ (x : ℕ). 2 * x) (pairs-of s ok)
+
   pub last-facts : Facts (ledger s) (write s)
   unfolding base
   last-facts = record {
     is-sized = write-sized s;
     is-sound = write-good s ok;
+    size = size-write s;
     links = λ v w. ap (λ (x : State). edge x v w) (read-write base s ok);
     no-loop = edge-loop ok;
     inside = edge-inside ok;
@@ -88,4 +101,6 @@ module _ (s : State) (ok : Valid base s) where
         phi-write s v j (omega (arith, few)) h ∙ phi-zero s v j (omega (arith, rank-is v l));
     twice = λ m d. subst (λ (x : ℕ). length m ≤ 2 * x) (pairs-of s ok) (twice base base-one s ok m d);
     cover = λ c t. subst (λ (x : ℕ). x ≤ length c) (pairs-of s ok) (cover base s ok c t);
+    mated-twice = twice-mated;
+    mated-cover = λ c t. omega (arith, twice-mated, pairs-of s ok, cover base s ok c t);
   }

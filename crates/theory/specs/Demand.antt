@@ -2,7 +2,7 @@
 -- links of the link book (the edge ledger) as links. The theorem is `demand-three` (proofs/ListTheorem.antt). Assumes nothing.
 use mathlib.Core.Path.{_≡_}
 use mathlib.Core.Logic.{_≢_, _⊎_}
-use mathlib.Core.Bool.{Bool, _&&_}
+use mathlib.Core.Bool.{Bool, not, _&&_}
 use mathlib.Core.List.{List, [], _∷_}
 use Prim.Native.Nat.{ℕ, _*_, _/_, _^_, _≤_, _<_}
 use lib.Dec.{T, leb, ltb, eqb}
@@ -10,7 +10,7 @@ use lib.ListN.{length}
 use Rattle.model.specs.Lists.{All, Mem, Distinct}
 use Rattle.model.specs.Counting.{sum, count}
 use Rattle.model.specs.State.{base, edge}
-use Rattle.model.specs.Bytes.{noMate, rankAt, mateAt, phiAt, read, write}
+use Rattle.model.specs.Bytes.{noMate, sizeAt, rankAt, mateAt, phiAt, read, write}
 use Rattle.model.specs.Sound.{sound}
 use Rattle.model.specs.Moves.{Ends}
 use Rattle.model.specs.Change.{Change, accepted, refused}
@@ -25,6 +25,10 @@ lastRack bs (c ∷ cs) = lastRack (changeBytes base bs c .rack) cs
 -- "The pairs are the book's links whose ends name each other as mates": their number, each counted at its lower end
 unfoldable pub pairsOf : Ledger → List ℕ → ℕ
 pairsOf l bs = sum (λ v. count (λ w. ltb v w && (l .there v w && (eqb (mateAt bs v) w && eqb (mateAt bs w) v))) (l .n)) (l .n)
+
+-- the number of mated vertices
+unfoldable pub matedOf : Ledger → List ℕ → ℕ
+matedOf l bs = count (λ v. not (eqb (mateAt bs v) noMate)) (l .n)
 
 -- the number of v's neighbours whose level is below j, by the ledger's edges and the rack's levels
 unfoldable pub neighboursBelow : Ledger → List ℕ → ℕ → ℕ → ℕ
@@ -79,6 +83,8 @@ pub record Facts (l : Ledger) (bs : List ℕ) : Type 0 where
   -- the rack is sound
   pub is-sized : T (sized bs)
   pub is-sound : T (sound base bs)
+  -- it has as many vertices as the ledger
+  pub size : sizeAt bs ≡ l .n
   -- its rows give the ledger's links, which join two different vertices below n
   pub links : (v w : ℕ) → edge (read bs) v w ≡ l .there v w
   pub no-loop : (v : ℕ) → T (l .there v v) → ⊥
@@ -98,6 +104,9 @@ pub record Facts (l : Ledger) (bs : List ℕ) : Type 0 where
   pub twice : (m : List Ends) → Disjoint (l .there) m → length m ≤ 2 * pairsOf l bs
   -- any vertices that touch every edge are at least as many as the pairs
   pub cover : (c : List ℕ) → Covers (l .there) c → pairsOf l bs ≤ length c
+  -- the mated vertices, which touch every edge by `maximal`, are twice as many as the pairs, and so at most twice as many as any that do
+  pub mated-twice : matedOf l bs ≡ 2 * pairsOf l bs
+  pub mated-cover : (c : List ℕ) → Covers (l .there) c → matedOf l bs ≤ 2 * length c
 
 -- Demand 3: "one statement about a whole list of changes, the empty list too".
 pub record Demand (l : Ledger) (bs : List ℕ) (cs : List Change) : Type 0 where

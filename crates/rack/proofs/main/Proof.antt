@@ -1,4 +1,5 @@
--- `rack::main` is safe and ends. The one need that is left is the length of what is printed. Assumes nothing.
+-- `rack::main` is safe and ends. The one need that is left is the length of what is printed. Assumes the contracts of the C library's `read`
+-- and `write`.
 use native.Mathlib.Omega.{arith}
 use lib.ListN.{length-take}
 use Rattle.run.proofs.Once.{put-within}
@@ -31,7 +32,7 @@ show-requires : tie.Need-show-requires
 show-requires c κs = search needs
 
 array-share-prefix-space : tie.Need-array-share-prefix-space
-array-share-prefix-space c = search needs
+array-share-prefix-space c = put-within (c .before .before .show .ensures .prints)
 
 slice-aggregate-write-all : tie.Need-slice-aggregate-write-all
 slice-aggregate-write-all c = simp length-take (omega (arith, put-within (c .before .before .before .show .ensures .prints)))
