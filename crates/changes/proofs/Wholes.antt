@@ -35,9 +35,6 @@ absent b e t = subst T e t
 -- ---- add
 module _ (bs₀ bs : List ℕ) (ok : Sounded bs₀) (a b : ℕ) (inside : (a < read bs₀ .n) × (b < read bs₀ .n)) (apart : a ≢ b)
     (none-yet : edge (read bs₀) a b ≡ false) (e : bs ≡ write (addEdge a b (read bs₀))) where
-  s₁ : State
-  s₁ = addEdge a b (read bs₀)
-
   added-proper : Proper (addEdge a b (read bs₀))
   added-proper = add-proper a b (read bs₀) apart inside (absent (edge (read bs₀) a b) none-yet) (valid-proper (read bs₀) (ok .valid))
 

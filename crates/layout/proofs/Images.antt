@@ -8,15 +8,13 @@ use native.Mathlib.Omega.{arith}
 use lib.ListN.{length, getD, set, replicate, length-set}
 use lib.Seq.{set-append-left}
 use lib.Bits.{bitAnd, bitOr}
-use Rattle.model.specs.Counting.{count, each, upd}
-use Rattle.model.specs.Bytes.{ownsAt, Fields, two, rowByte, image}
+use Rattle.model.specs.Counting.{each, upd}
+use Rattle.model.specs.Bytes.{Fields, two, rowByte, image}
 use Rattle.model.proofs.Tests.{eq?}
-use Rattle.model.proofs.Prefix.{count-ext}
 use Rattle.model.proofs.Lists.{upd-same, upd-other}
 use Rattle.model.proofs.Chunks.{each-one-length}
-use Rattle.model.proofs.Fields.{heads, ranks, mates, phis, rows, parts, heads-length, ranks-length, mates-length, phis-length, row-byte, owns-image}
+use Rattle.model.proofs.Fields.{heads, ranks, mates, phis, rows, parts, heads-length, ranks-length, mates-length, phis-length, row-byte}
 use Rattle.layout.specs.Setters.{setTwo, setEdges, setRank, setMate, setPhi, own, disown}
-use Rattle.layout.specs.Rows.{degreeAt}
 use Rattle.layout.proofs.Pieces.{set-behind, each-ext, set-each, each-one-ext, set-each-one, rowByte-ext, rowByte-other, rowByte-or, rowByte-and}
 
 -- ---- what is set in a part of an image
@@ -187,9 +185,3 @@ disown-image f v w l k =
     ap₂ (λ (i j : ℕ). set (image f) i (bitAnd (getD (image f) i 0) (255 - 2 ^ j))) (place-byte v w) (place-bit v w)
     ∙ set-row f v w _ false l k
     (ap (λ (x : ℕ). bitAnd x (255 - 2 ^ (w % 8))) (row-byte f v (w / 8) l (omega arith)) ∙ rowByte-and (f .owns v) w)
-
--- ---- rows of images
-
-pub degree-image : (f : Fields) (v : ℕ) → v < 256 → degreeAt (image f) v ≡ count (f .owns v) 256
-unfolding degreeAt
-degree-image f v l = count-ext (ownsAt (image f) v) (f .owns v) 256 (λ w k. owns-image f v w l k)

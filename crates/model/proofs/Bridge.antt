@@ -7,7 +7,7 @@ use Prim.Native.Nat.{ℕ, suc, _≤_, _<_}
 use native.Mathlib.Omega.{arith}
 use lib.Dec.{T}
 use lib.ListN.{length}
-use Rattle.model.specs.State.{Rules, base, State, edge, phi, edges}
+use Rattle.model.specs.State.{Rules, State, edge, phi, edges}
 use Rattle.model.specs.Bytes.{rackLength, noMate, sizeAt, rankAt, mateAt, phiAt, ownsAt, named, read, mateEntry, fieldsOf, write}
 use Rattle.model.specs.Sound.{sound}
 use Rattle.model.specs.Valid.{IsBytes, Valid}
@@ -29,10 +29,6 @@ valid-bytes {R} {s} top ok = image-bytes (fieldsOf s) (record {
   mate = λ v l. mateEntry-few ok v;
   phi = λ v j l k. phi-few ok v j;
 })
-
-pub write-bytes-base : (s : State) → Valid base s → IsBytes (write s)
-unfolding base
-write-bytes-base s ok = valid-bytes {R = base} {s = s} (omega arith) ok
 
 module _ {R : Rules} {s : State} (top : R .top ≤ 3) (ok : Valid R s) where
   -- below n is below 256

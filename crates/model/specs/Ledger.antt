@@ -35,8 +35,3 @@ entered l c = elim (ledgerNumber l c) [
 unfoldable pub enteredAll : Ledger → List Change → Ledger
 enteredAll l [] = l
 enteredAll l (c ∷ cs) = enteredAll (entered l c) cs
-
--- the numbers of the changes of a list
-unfoldable pub numbers : Ledger → List Change → List ℕ
-numbers l [] = []
-numbers l (c ∷ cs) = ledgerNumber l c ∷ numbers (entered l c) cs

@@ -12,7 +12,7 @@ use Rattle.model.specs.Counting.{bit, count}
 use Rattle.model.specs.State.{State, edge, near, below, phi}
 use Rattle.model.specs.Bytes.{rankAt, ownsAt, image, write}
 use Rattle.model.specs.Moves.{ownedBy}
-use Rattle.model.proofs.Tests.{holds?, le?, T-true, T-false, leb-yes, and-intro, and-left, and-right, or-cases, or-left, or-right}
+use Rattle.model.proofs.Tests.{holds?, le?, T-true, T-false, and-intro, and-left, and-right, or-cases, or-left, or-right}
 use Rattle.model.proofs.Counting.{sum-eq, sum-add, bit-yes, bit-no}
 use Rattle.model.proofs.Prefix.{count-zero, count-suc, count-mono, count-step}
 use Rattle.model.proofs.Fields.{image-length, rank-image, owns-image}

@@ -3,7 +3,7 @@ use mathlib.Core.Path.{_≡_, refl, sym, ap, _∙_, subst}
 use mathlib.Core.Logic.{_≢_}
 use mathlib.Core.Bool.{Bool, true, false}
 use mathlib.Core.List.{List, _++_}
-use Prim.Native.Nat.{ℕ, _+_, _*_, _≤_}
+use Prim.Native.Nat.{ℕ, _+_, _≤_}
 use native.Mathlib.Omega.{arith}
 use lib.Dec.{leb, leb→le}
 use lib.ListN.{length, length-append}
@@ -15,7 +15,7 @@ use Rattle.model.specs.Valid.{Valid}
 use Rattle.model.specs.Change.{Change}
 use Rattle.model.specs.Trace.{Holds, rackLine}
 use Rattle.model.specs.Record.{after, changesText, recordText}
-use Rattle.model.specs.Run.{Ran, ran, bad-size, RunAnswer, turnedBack, longest, spaceLength}
+use Rattle.model.specs.Run.{Ran, ran, bad-size, RunAnswer, longest, spaceLength}
 use Rattle.model.proofs.Tests.{true-T, and-left, and-right}
 use Rattle.theory.proofs.Matching.{base-pos, empty-valid}
 use Rattle.text.specs.Writing.{Put}

@@ -20,9 +20,6 @@ pub record Same (r q : Run) : Type 0 where
   pub draws : r .draws ≡ q .draws
   pub falls : r .falls ≡ q .falls
 
-pub same-back : {r q : Run} → Same r q → Same q r
-same-back e = record { state = sym (e .state); draws = sym (e .draws); falls = sym (e .falls) }
-
 pub same-then : {r q p : Run} → Same r q → Same q p → Same r p
 same-then a b = record { state = a .state ∙ b .state; draws = a .draws ∙ b .draws; falls = a .falls ∙ b .falls }
 

@@ -6,13 +6,12 @@ use mathlib.Core.Logic.{inl, inr}
 use mathlib.Core.List.{List, [], _∷_, _++_, append-assoc}
 use native.Mathlib.Omega.{arith}
 use native.Mathlib.Numerals.{add-one}
-use lib.ListN.{length, length-append, length-drop}
+use lib.ListN.{length, length-append}
 use Rattle.model.specs.Lists.{All}
 use Rattle.model.specs.Text.{texts}
 use Rattle.model.specs.Change.{Change}
 use Rattle.model.specs.Trace.{Trace, Holds, traceText, rackLine, codeText, changeLine, LineChange, onFirst, linesOf, FirstBadChange, FirstBad}
 use Rattle.model.proofs.Tests.{eq?}
-use Rattle.text.specs.Reading.{Found}
 use Rattle.text.proofs.Decimals.{length-pos}
 use Rattle.text.proofs.Texts.{texts-snoc}
 use Rattle.lines.proofs.Laws.{code-text, rack-same, change-same}
@@ -122,10 +121,6 @@ first-bad-within text k h = go (linesOf text) k (lines-few text) h
     go (l ∷ ls) zero few h = unfold FirstBad in absurd h
     go (l ∷ ls) (suc zero) few h = (omega arith, omega arith)
     go (l ∷ ls) (suc (suc k)) few h = unfold FirstBad in (omega arith, omega (arith, bad-change-within ls k (h .1)))
-
--- so the next position is further on
-pub further : {s : List ℕ} {at : ℕ} {c : Change} {next : ℕ} → Found changeLine LineChange s at c next → at + 20 ≤ next
-further {s} {at} {c} {next} f = omega (arith, f .within, change-least c, simp (length-append, length-drop) at (ap length (f .stands)))
 
 pub length-snoc : {A : Type 0} (xs : List A) (x : A) → length (xs ++ (x ∷ [])) ≡ suc (length xs)
 length-snoc xs x = length-append xs (x ∷ []) ∙ add-one (length xs)
