@@ -36,7 +36,7 @@ fn counts_of(rack: &[u8], tally: &[u16], v: usize) -> bool
     true
 }
 
-// Whether all counts are.
+// Whether the counts of every vertex are.
 fn counts(rack: &[u8], tally: &[u16], n: usize) -> bool
     requires { ⌜ Sized (now rack) ⌝ }
     requires { ⌜ n ≤ most ⌝ }
@@ -53,7 +53,7 @@ fn counts(rack: &[u8], tally: &[u16], n: usize) -> bool
     true
 }
 
-// Whether w is a right mate for v of rank r.
+// Whether w is a right mate for v: it names v, stands at the same rank and is joined to v by an edge.
 fn mated(rack: &[u8], v: usize, w: usize, n: usize) -> bool
     requires { ⌜ Sized (now rack) ⌝ }
     requires { ⌜ n ≡ sizeAt (now rack) ⌝ }
@@ -70,10 +70,7 @@ fn mated(rack: &[u8], v: usize, w: usize, n: usize) -> bool
     if layout::rank(rack, w) != layout::rank(rack, v) {
         return false;
     }
-    if layout::owns(rack, v, w) {
-        return true;
-    }
-    layout::owns(rack, w, v)
+    layout::linked(rack, v, w)
 }
 
 // Whether the mate of v is right, and v has none exactly if its rank is 0.
@@ -95,7 +92,7 @@ fn mate_of(rack: &[u8], v: usize, n: usize) -> bool
     mated(rack, v, m as usize, n)
 }
 
-// Whether all mates are.
+// Whether the mate of every vertex is.
 fn mates(rack: &[u8], n: usize) -> bool
     requires { ⌜ Sized (now rack) ⌝ }
     requires { ⌜ n ≡ sizeAt (now rack) ⌝ }

@@ -13,7 +13,6 @@ use Rattle.audit.proofs.Whole.{answer, whole, facts-edges, facts-degree
 use borrow.Author.Needs.{needs}
 use Rattle.audit.proofs.sound.Statement.{statement}
 use Rattle.audit.proofs.sound.Tie as tie
-use Rattle.layout.proofs.edges.Reads as edges-reads′
 
 size-requires : tie.Need-size-requires
 size-requires c κs = search needs
