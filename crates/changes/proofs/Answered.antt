@@ -8,7 +8,7 @@ use Rattle.model.specs.State.{base, State, edge, pairs}
 use Rattle.model.specs.Bytes.{read, write, mateEntry}
 use Rattle.model.specs.Valid.{Valid}
 use Rattle.model.specs.Moves.{Run}
-use Rattle.model.specs.Change.{Change, Changed, lower, upper, add, drop, number, refused, done, accepted, change}
+use Rattle.model.specs.Change.{Changed, lower, upper, add, drop, number, refused, done, accepted, change}
 use Rattle.model.proofs.Tests.{eq?, bool-ext, T-true, T-false, eqb-yes, eqb-no, leb-yes, leb-no}
 use Rattle.model.proofs.Limits.{mateEntry-free, mateEntry-mate}
 use Rattle.model.proofs.Reading.{read-write}
@@ -67,10 +67,11 @@ module _ (s : State) (code a b : ℕ) (words : List ℕ) where
         drops = λ e. T-true {b = edge s a b} (c .present (elim (c .codes) [ inl f ↦ absurd (e f) | inr f ↦ f ]));
       }
 
--- the other way round it is the same edge
+-- what is left of a run is left of an equal one
 pub ran-is : {r q : Run} {bs : List ℕ} {t : Tally} → r ≡ q → Ran q bs t → Ran r bs t
 ran-is {r} {q} {bs} {t} e x = subst (λ (z : Run). Ran z bs t) (sym e) x
 
+-- the other way round it is the same edge
 pub edge-swap : (s : State) (a b : ℕ) → edge s b a ≡ edge s a b
 edge-swap s a b = bool-ext (edge s b a) (edge s a b) (edge-turn s b a) (edge-turn s a b)
 
@@ -79,10 +80,6 @@ pub sounded-of : (bs : List ℕ) (s : State) → bs ≡ write s → Valid base s
 sounded-of bs s e ok =
     let r : read bs ≡ s = ap read e ∙ read-write base s ok in
     record { written = e ∙ ap write (sym r); valid = subst (Valid base) (sym r) ok }
-
--- whatever the change, refused or not, the rack that it leaves is sound: the next change may follow
-pub sounded-after : (bs : List ℕ) (c : Change) → Sounded bs → Sounded (write (change base (read bs) c .state))
-sounded-after bs c ok = sounded-of _ (change base (read bs) c .state) refl (step (read bs) (ok .valid) c .valid)
 
 -- what the change answers, and what it leaves
 module _ (bs : List ℕ) (ok : Sounded bs) (code a b : ℕ) (words : List ℕ) where

@@ -1,14 +1,15 @@
 -- The numbers of a change, case by case. Assumes nothing.
-use mathlib.Core.Path.{_≡_, refl, sym}
+use mathlib.Core.Path.{_≡_, refl}
 use mathlib.Core.Logic.{_≢_, inl, inr}
-use mathlib.Core.Bool.{Bool, true, false, _||_}
+use mathlib.Core.Bool.{Bool, true, false, not, _||_, _&&_}
 use mathlib.Core.List.{List}
-use Prim.Native.Nat.{ℕ, suc, _≤_, _<_}
+use Prim.Native.Nat.{ℕ, zero, suc, _/_, _≤_, _<_}
 use native.Mathlib.Omega.{arith}
-use lib.Dec.{eqb}
+use lib.Dec.{eqb, ltb}
+use lib.ListN.{length}
 use Rattle.model.specs.Change.{number}
 use Rattle.model.proofs.Tests.{eq?, le?, eqb-yes, eqb-no, leb-yes, leb-no}
-use Rattle.changes.specs.Sounded.{brought, endsNumber, wordsNumber}
+use Rattle.changes.specs.Sounded.{brought, codeNumber, endsNumber, linkNumber, wordsNumber}
 
 -- the numbers of the boards
 module _ (n a b : ℕ) where
@@ -38,45 +39,61 @@ module _ (n a b : ℕ) where
     ]
   ]
 
-module _ (n : ℕ) (there : ℕ → ℕ → Bool) (a b : ℕ) (words : List ℕ) where
-  -- the number of an add, and of a drop
-  abbrev adding : ℕ
-  adding = number n there (brought 1 a b words)
+-- The number of a change is the first of its parts' numbers that is not 0, in their order.
 
-  abbrev dropping : ℕ
-  dropping = number n there (brought 2 a b words)
+unfoldable pub first : ℕ → ℕ → ℕ
+first zero y = y
+first (suc k) y = suc k
 
-  -- where the boards have a number, it is the change's
-  pub back : (code : ℕ) → (eqb code 1 || eqb code 2) ≡ true → endsNumber n a b ≢ 0 → number n there (brought code a b words) ≡ endsNumber n a b
-  unfolding number
-  back code c d = elim (le? n a) [
-    | inl l ↦ rw (c, leb-no (suc a) n (omega arith), number) (sym (ends-a n a b l))
-    | inr l ↦ elim (le? n b) [
-      | inl k ↦ rw (c, leb-yes (suc a) n l, leb-no (suc b) n (omega arith), number) (sym (ends-b n a b l k))
-      | inr k ↦ elim (eq? a b) [
-        | inl e ↦ rw (c, leb-yes (suc a) n l, leb-yes (suc b) n k, eqb-yes a b e, number) (sym (ends-same n a b l k e))
-        | inr e ↦ absurd (d (ends-good n a b l k e))
-      ]
-    ]
-  ]
+pub first-is : (x y : ℕ) → x ≢ 0 → x ≡ first x y
+unfolding first
+first-is zero y d = absurd (d refl)
+first-is (suc k) y d = refl
 
-  module _ (k : a < n) (l : b < n) (d : a ≢ b) where
-    pub add-there : there a b ≡ true → adding ≡ 10
-    unfolding number
-    add-there t = rw (leb-yes (suc a) n k, leb-yes (suc b) n l, eqb-no a b d, t, number) refl
+pub first-next : (x y : ℕ) → x ≡ 0 → y ≡ first x y
+unfolding first
+first-next x y e = rw (e, first) refl
 
-    pub add-words : there a b ≡ false → adding ≡ wordsNumber n words
-    unfolding number wordsNumber
-    add-words t = rw (leb-yes (suc a) n k, leb-yes (suc b) n l, eqb-no a b d, t, number, wordsNumber) refl
+-- the numbers after the code's, after the boards' and after the link's
+module _ (n : ℕ) (there : Bool) (code a b : ℕ) (words : List ℕ) where
+  abbrev pub byLink : ℕ
+  byLink = first (linkNumber code there) (wordsNumber n words)
 
-    pub drop-gone : there a b ≡ false → dropping ≡ 11
-    unfolding number
-    drop-gone t = rw (leb-yes (suc a) n k, leb-yes (suc b) n l, eqb-no a b d, t, number) refl
+  abbrev pub byEnds : ℕ
+  byEnds = first (endsNumber n a b) byLink
 
-    pub drop-words : there a b ≡ true → dropping ≡ wordsNumber n words
-    unfolding number wordsNumber
-    drop-words t = rw (leb-yes (suc a) n k, leb-yes (suc b) n l, eqb-no a b d, t, number, wordsNumber) refl
+  abbrev pub byCode : ℕ
+  byCode = first (codeNumber code) byEnds
 
-pub code-bad : (n : ℕ) (there : ℕ → ℕ → Bool) (code a b : ℕ) (words : List ℕ) → code ≢ 1 → code ≢ 2 → number n there (brought code a b words) ≡ 7
-unfolding number
-code-bad n there code a b words p q = rw (eqb-no code 1 p, eqb-no code 2 q, number) refl
+pub number-is : (n : ℕ) (there : ℕ → ℕ → Bool) (code a b : ℕ) (words : List ℕ) → number n there (brought code a b words) ≡ byCode n (there a b) code a b words
+unfolding number codeNumber endsNumber linkNumber wordsNumber first
+number-is n there code a b words = go (eqb code 1) (eqb code 2) (ltb a n && ltb b n) (eqb a b) (there a b) (ltb (length words) (n / 2))
+  where
+    go : (adds drops inside same there few : Bool)
+        → _≡_ {A = ℕ}
+        (elim (adds || drops) [
+          | false ↦ 7
+          | true ↦ elim inside [
+            | false ↦ 8
+            | true ↦ elim same [
+              | true ↦ 9
+              | false ↦ elim (adds && there) [
+                | true ↦ 10
+                | false ↦ elim (drops && not there) [ true ↦ 11 | false ↦ elim few [ true ↦ 12 | false ↦ 0 ] ]
+              ]
+            ]
+          ]
+        ])
+        (first (elim (adds || drops) [ true ↦ 0 | false ↦ 7 ])
+        (first (elim inside [ false ↦ 8 | true ↦ elim same [ true ↦ 9 | false ↦ 0 ] ])
+        (first (elim there [ true ↦ elim adds [ true ↦ 10 | false ↦ 0 ] | false ↦ elim drops [ true ↦ 11 | false ↦ 0 ] ]) (elim few [ true ↦ 12 | false ↦ 0 ]))))
+    go false false i s t f = refl
+    go true d false s t f = refl
+    go true d true true t f = refl
+    go true d true false true f = refl
+    go true true true false false f = refl
+    go true false true false false f = refl
+    go false true false s t f = refl
+    go false true true true t f = refl
+    go false true true false true f = refl
+    go false true true false false f = refl

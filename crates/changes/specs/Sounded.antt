@@ -1,7 +1,7 @@
 -- A change of a sound rack: how it is brought, the numbers of its parts, and what it answers and leaves. Assumes nothing.
 use mathlib.Core.Path.{_≡_}
 use mathlib.Core.Logic.{_≢_}
-use mathlib.Core.Bool.{true, false, _&&_}
+use mathlib.Core.Bool.{Bool, true, false, _&&_, _||_}
 use mathlib.Core.List.{List}
 use Prim.Native.Nat.{ℕ, _/_, _≤_, _<_}
 use lib.Dec.{T, eqb, ltb}
@@ -60,12 +60,21 @@ pub record Answers (r : Answer) (x : AnswerOf) : Type 0 where
   pub falls : r .falls ≡ x .falls
   pub pairs : r .pairs ≡ x .pairs
 
+-- a change by what a call brings
 abbrev pub brought : ℕ → ℕ → ℕ → List ℕ → Change
 brought code a b words = record { code = code; a = a; b = b; words = words }
+
+-- 7, or 0
+unfoldable pub codeNumber : ℕ → ℕ
+codeNumber code = elim (eqb code 1 || eqb code 2) [ true ↦ 0 | false ↦ 7 ]
 
 -- 8 or 9, or 0
 unfoldable pub endsNumber : ℕ → ℕ → ℕ → ℕ
 endsNumber n a b = elim (ltb a n && ltb b n) [ false ↦ 8 | true ↦ elim (eqb a b) [ true ↦ 9 | false ↦ 0 ] ]
+
+-- 10 or 11, or 0, by whether the edge is there
+unfoldable pub linkNumber : ℕ → Bool → ℕ
+linkNumber code there = elim there [ true ↦ elim (eqb code 1) [ true ↦ 10 | false ↦ 0 ] | false ↦ elim (eqb code 2) [ true ↦ 11 | false ↦ 0 ] ]
 
 -- 12, or 0
 unfoldable pub wordsNumber : ℕ → List ℕ → ℕ

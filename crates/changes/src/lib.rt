@@ -8,7 +8,7 @@ ghost use Rattle.model.specs.Bytes.{read, write};
 ghost use Rattle.model.specs.Moves.{part as parted, promote as promoted, settle as settled};
 ghost use Rattle.model.specs.Change.{start, add as added, drop as dropped, number as numberOf, change as changeOf};
 ghost use Rattle.moves.specs.Proper.{Held};
-ghost use Rattle.changes.specs.Sounded.{Sounded, Begun, Liftable, Acceptable, acceptedRun, Ran, Answers, brought, endsNumber, wordsNumber};
+ghost use Rattle.changes.specs.Sounded.{Sounded, Begun, Liftable, Acceptable, acceptedRun, Ran, Answers, brought, codeNumber, endsNumber, linkNumber, wordsNumber};
 use settling::Tally;
 
 // "A change answers 0, its draws, its falls (moves down by one level) and the pairs then held."
@@ -27,6 +27,19 @@ pub fn pairs(rack: &[u8]) -> u32
     (layout::ranked(rack) / 2) as u32
 }
 
+// "7. The change code is neither 1 (add) nor 2 (drop).", or 0.
+fn code_number(code: u32) -> u32
+    ensures { λ r. ⌜ r ≡ codeNumber code ⌝ }
+{
+    if code == 1 {
+        return 0;
+    }
+    if code == 2 {
+        return 0;
+    }
+    7
+}
+
 // "8. A board named is n or more." and "9. The two boards named are the same.", or 0.
 fn ends_number(n: usize, a: u32, b: u32) -> u32
     ensures { λ r. ⌜ r ≡ endsNumber n a b ⌝ }
@@ -43,6 +56,22 @@ fn ends_number(n: usize, a: u32, b: u32) -> u32
     0
 }
 
+// "10. A link to add is there already." and "11. A link to drop isn't there.", or 0.
+fn link_number(code: u32, there: bool) -> u32
+    ensures { λ r. ⌜ r ≡ linkNumber code there ⌝ }
+{
+    if there {
+        if code == 1 {
+            return 10;
+        }
+        return 0;
+    }
+    if code == 2 {
+        return 11;
+    }
+    0
+}
+
 // "12. Fewer words are lent than n div 2.", or 0.
 fn words_number(n: usize, words: &[u32]) -> u32
     ensures { λ r. ⌜ r ≡ wordsNumber n (now (words .entry)) ⌝ }
@@ -53,50 +82,26 @@ fn words_number(n: usize, words: &[u32]) -> u32
     0
 }
 
-// The number of an add: "10. A link to add is there already." stands between those of the boards and that of the words.
-fn add_number(rack: &[u8], a: u32, b: u32, words: &[u32]) -> u32
-    requires { ⌜ Held (now rack) ⌝ }
-    ensures { λ r. ⌜ r ≡ numberOf (read (now (rack .entry)) .n) (edge (read (now (rack .entry)))) (brought 1 a b (now (words .entry))) ⌝ }
-{
-    let n = layout::size(rack);
-    let k = ends_number(n, a, b);
-    if k != 0 {
-        return k;
-    }
-    if layout::linked(rack, a as usize, b as usize) {
-        return 10;
-    }
-    words_number(n, words)
-}
-
-// The number of a drop: "11. A link to drop isn't there."
-fn drop_number(rack: &[u8], a: u32, b: u32, words: &[u32]) -> u32
-    requires { ⌜ Held (now rack) ⌝ }
-    ensures { λ r. ⌜ r ≡ numberOf (read (now (rack .entry)) .n) (edge (read (now (rack .entry)))) (brought 2 a b (now (words .entry))) ⌝ }
-{
-    let n = layout::size(rack);
-    let k = ends_number(n, a, b);
-    if k != 0 {
-        return k;
-    }
-    if layout::linked(rack, a as usize, b as usize) {
-        return words_number(n, words);
-    }
-    11
-}
-
-// The first of 7 to 12 that fits a change, or 0: "7. The change code is neither 1 (add) nor 2 (drop)."
-pub fn number(rack: &[u8], code: u32, a: u32, b: u32, words: &[u32]) -> u32
+// The first of 7 to 12 that fits a change, or 0.
+fn number(rack: &[u8], code: u32, a: u32, b: u32, words: &[u32]) -> u32
     requires { ⌜ Held (now rack) ⌝ }
     ensures { λ r. ⌜ r ≡ numberOf (read (now (rack .entry)) .n) (edge (read (now (rack .entry)))) (brought code a b (now (words .entry))) ⌝ }
 {
-    if code == 1 {
-        return add_number(rack, a, b, words);
+    let by_code = code_number(code);
+    if by_code != 0 {
+        return by_code;
     }
-    if code == 2 {
-        return drop_number(rack, a, b, words);
+    let n = layout::size(rack);
+    let by_ends = ends_number(n, a, b);
+    if by_ends != 0 {
+        return by_ends;
     }
-    7
+    let there = layout::linked(rack, a as usize, b as usize);
+    let by_link = link_number(code, there);
+    if by_link != 0 {
+        return by_link;
+    }
+    words_number(n, words)
 }
 
 // An add of an edge that is not there: a is the lower number.
