@@ -16,6 +16,7 @@ pub record ChangeIs (bs : List ℕ) (c : Change) (r : Answer) (after : List ℕ)
   pub answers : Answers r (changeBytes base bs c .answer)
   pub leaves : after ≡ changeBytes base bs c .rack
 
+-- what the audit answers, and then a query of the level, and one of the mate or of two linked boards
 pub record AuditIs (r : AuditAnswer) (x : AuditOf) : Type 0 where
   pub number : r .number ≡ x .number
   pub yes : r .yes ≡ x .yes

@@ -21,6 +21,7 @@ unfoldable pub Series : List ℕ → List Made → Type 0
 Series bs [] = Unit
 Series bs (d ∷ ds) = ChangeIs bs (d .change) (d .answer) (d .after) × Series (d .after) ds
 
+-- the changes that were asked for, and the bytes after the last call
 unfoldable pub asked : List Made → List Change
 asked [] = []
 asked (d ∷ ds) = d .change ∷ asked ds
@@ -37,6 +38,7 @@ gave bs d = record {
   news = changeBytes base bs (d .change) .news;
 }
 
+-- each call gave what demand 3 says of a call, by the ledger as it then stands
 unfoldable pub Right : Ledger → List ℕ → List Made → Type 0
 Right l bs [] = Unit
 Right l bs (d ∷ ds) = Call l bs (d .change) (gave bs d) × Right (entered l (d .change)) (d .after) ds

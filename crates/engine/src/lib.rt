@@ -27,7 +27,7 @@ pub struct QueryAnswer {
 }
 
 // 1 or 6, or 0 if neither fits.
-pub fn rack_number(rack: &[u8]) -> u32
+fn rack_number(rack: &[u8]) -> u32
     ensures { λ r. ⌜ r ≡ rackNumber base (now (rack .entry)) ⌝ }
 {
     if !layout::sized(rack) {

@@ -14,6 +14,7 @@ Sized bs = length bs ≡ rackLength
 unfoldable pub setTwo : List ℕ → ℕ → ℕ → List ℕ
 setTwo bs k x = set (set bs k (x % 256)) (k + 1) (x / 256)
 
+-- the fields, each by its place: the number of edges, and the rank, the mate and the count at j of vertex v
 unfoldable pub setEdges : List ℕ → ℕ → List ℕ
 unfolding setTwo
 setEdges bs x = setTwo bs 2 x
@@ -28,7 +29,8 @@ setMate bs v x = setTwo bs (264 + 2 * v) x
 unfoldable pub setPhi : List ℕ → ℕ → ℕ → ℕ → List ℕ
 setPhi bs v j x = set bs (776 + (4 * v + j)) x
 
--- Row v is the 32 bytes from 1,800 + 32 v: as one long row, its place w is place 8 * (1,800 + 32 v) + w of the whole buffer.
+-- v owns the edge v-w, or no longer does. Row v is the 32 bytes from 1,800 + 32 v: as one long row, its place w is place
+-- 8 * (1,800 + 32 v) + w of the whole buffer.
 unfoldable pub own : List ℕ → ℕ → ℕ → List ℕ
 unfolding inserted
 own bs v w = inserted bs (14400 + (256 * v + w))

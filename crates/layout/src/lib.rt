@@ -16,6 +16,12 @@ ghost use Rattle.layout.specs.Rows.{degreeAt, NthOwned, NextOwned};
 
 pub mod unused;
 
+// The most vertices that a rack has.
+pub const MOST: usize = 256;
+
+// The entry for the mate of a free vertex.
+pub const NO_MATE: u16 = 65535;
+
 // "The thresholds for levels 0, 1, 2, 3 are 1, 4, 16 and 64, that is 4^j."
 const THRESHOLDS: [u8; 4] = [1, 4, 16, 64];
 
@@ -71,6 +77,7 @@ pub fn edges(rack: &[u8]) -> u16
     join(rack[2], rack[3])
 }
 
+// Sets the number of edges.
 pub fn set_edges(rack: &mut [u8], x: u16)
     requires { ⌜ Sized (now rack) ⌝ }
     ensures { λ _. ⌜ now (rack .exit) ≡ setEdges (now (rack .entry)) x ⌝ }
@@ -88,6 +95,7 @@ pub fn rank(rack: &[u8], v: usize) -> u8
     rack[8 + v]
 }
 
+// Sets the rank of vertex v.
 pub fn set_rank(rack: &mut [u8], v: usize, x: u8)
     requires { ⌜ Sized (now rack) ⌝ }
     requires { ⌜ v < mostOf ⌝ }
@@ -114,6 +122,7 @@ pub fn mate(rack: &[u8], v: usize) -> u16
     join(rack[at], rack[at + 1])
 }
 
+// Sets the entry for the mate of vertex v.
 pub fn set_mate(rack: &mut [u8], v: usize, x: u16)
     requires { ⌜ Sized (now rack) ⌝ }
     requires { ⌜ v < mostOf ⌝ }
@@ -134,6 +143,7 @@ pub fn phi(rack: &[u8], v: usize, j: usize) -> u8
     rack[776 + (4 * v + j)]
 }
 
+// Sets the count of vertex v at j.
 pub fn set_phi(rack: &mut [u8], v: usize, j: usize, x: u8)
     requires { ⌜ Sized (now rack) ⌝ }
     requires { ⌜ v < mostOf ⌝ }
@@ -167,6 +177,7 @@ pub fn linked(rack: &[u8], v: usize, w: usize) -> bool
     owns(rack, w, v)
 }
 
+// v owns the edge v-w from now on. The rows stand one after the other, so that the place is one of a single long row.
 pub fn own(rack: &mut [u8], v: usize, w: usize)
     requires { ⌜ Sized (now rack) ⌝ }
     requires { ⌜ v < mostOf ⌝ }
@@ -176,6 +187,7 @@ pub fn own(rack: &mut [u8], v: usize, w: usize)
     bitset::insert(rack, 14400 + (256 * v + w))
 }
 
+// v no longer owns the edge v-w.
 pub fn disown(rack: &mut [u8], v: usize, w: usize)
     requires { ⌜ Sized (now rack) ⌝ }
     requires { ⌜ v < mostOf ⌝ }
@@ -216,12 +228,6 @@ pub fn next_owned(rack: &[u8], v: usize, from: usize) -> usize
     let at = 1800 + 32 * v;
     bitset::next(&rack[at..at + 32], from)
 }
-
-// The most vertices that a rack has.
-pub const MOST: usize = 256;
-
-// The entry for the mate of a free vertex.
-pub const NO_MATE: u16 = 65535;
 
 // 64 places of the row of v, from 64 k on, as one word.
 pub fn word(rack: &[u8], v: usize, k: usize) -> u64

@@ -1,5 +1,5 @@
-// The moves of document 01 on the rack's bytes. Each contract says that the bytes are then the writing of the definition's state, or that
-// the bytes, the tally and the vertices that may wait are those of the definition's run.
+// The moves of document 01 on the rack's bytes, and their steps. The contract of a move says that the bytes are then the writing of the
+// definition's state, that of a step the same of an image whose counts are half adjusted.
 ghost use mathlib.Core.Path.{_≡_};
 ghost use mathlib.Core.Logic.{_≢_};
 ghost use Prim.Native.Nat.{ℕ, suc, _+_, _<_, _≤_};

@@ -7,10 +7,12 @@ use Rattle.lines.specs.declared.ChangeRead.{ChangeRead}
 use Rattle.lines.specs.declared.ChangeRead.the-variants.{Line, NoLine}
 use Rattle.reader.specs.declared.Reader.{Reader}
 
+-- after line 1
 abbrev pub pastRack : ℕ → RackRead → ℕ
 pastRack at (Rack n next) = next
 pastRack at NoRack = at
 
+-- after a change's line
 abbrev pub pastLine : ℕ → ChangeRead → ℕ
 pastLine at (Line code a b count next) = next
 pastLine at NoLine = at

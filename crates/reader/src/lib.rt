@@ -8,6 +8,7 @@ ghost use lib.ListN.{length};
 ghost use Rattle.lines.specs.Contracts.{RackAt, ChangeAt};
 ghost use Rattle.reader.specs.Place.{pastRack, pastLine, Moved};
 
+// The text, and the place in it that the reading got to.
 pub struct Reader<'a> {
     pub text: &'a [u8],
     pub at: usize,

@@ -1,2 +1,2 @@
--- The definitions that the contracts of this crate cite.
+-- The definitions that the contracts of `run` cite.
 pub mod Runs

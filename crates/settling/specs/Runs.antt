@@ -33,7 +33,7 @@ pub record Waiting (row : List ℕ) (s : State) : Type 0 where
 unfoldable pub noted : State → List ℕ → ℕ → List ℕ
 noted s row v = elim (eqb (s .mate v) v) [ true ↦ row | false ↦ inserted row (s .mate v) ]
 
--- a tally that leaves room for d more draws and f more falls
+-- a tally of at most d draws and f falls, so that there is room for more
 pub record Room (d f : ℕ) (t : Tally) : Type 0 where
   pub draws : t .draws ≤ d
   pub falls : t .falls ≤ f

@@ -18,6 +18,7 @@ pub struct Tally {
 }
 
 impl Tally {
+    // Nothing drawn and nothing fallen yet.
     pub fn new() -> Self
         ensures { λ r. ⌜ (r .draws ≡ 0) × (r .falls ≡ 0) ⌝ }
     {
@@ -64,7 +65,7 @@ fn word_at(words: &[u32], k: usize) -> u32
 }
 
 // v's mate, if it has one, may be pending from now on.
-pub fn note_mate(rack: &[u8], waiting: &mut [u8], v: usize)
+fn note_mate(rack: &[u8], waiting: &mut [u8], v: usize)
     requires { ⌜ Held (now rack) ⌝ }
     requires { ⌜ (v < read (now rack) .n) × (length (now waiting) ≡ 32) ⌝ }
     ensures { λ _. ⌜ now (waiting .exit) ≡ noted (read (now (rack .entry))) (now (waiting .entry)) v ⌝ }
