@@ -34,6 +34,7 @@ pub record ChangedBytes : Type 0 where
   pub rack : List ℕ
   pub news : List Ends
 
+-- turned back with the number k: the bytes stay
 unfoldable pub unchanged : ℕ → List ℕ → ChangedBytes
 unchanged k bs = record { answer = refused k; rack = bs; news = [] }
 
@@ -65,6 +66,7 @@ unfoldable pub twoNumber : Rules → List ℕ → ℕ → ℕ → ℕ
 twoNumber R bs v w = let k = oneNumber R bs v in
     elim (eqb k 0) [ false ↦ k | true ↦ elim (ltb w (sizeAt bs)) [ false ↦ 8 | true ↦ elim (eqb v w) [ true ↦ 9 | false ↦ 0 ] ] ]
 
+-- the answers of the queries: the mate or 1 and 0, and the level, which may be -1
 pub record QueryAnswer : Type 0 where
   pub number : ℕ
   pub value : ℕ

@@ -25,6 +25,7 @@ withEdge there a b v w = there v w || isEdge a b v w
 unfoldable pub withoutEdge : (ℕ → ℕ → Bool) → ℕ → ℕ → ℕ → ℕ → Bool
 withoutEdge there a b v w = there v w && not (isEdge a b v w)
 
+-- the lower and the upper number of two
 unfoldable pub lower : ℕ → ℕ → ℕ
 lower a b = elim (leb a b) [ true ↦ a | false ↦ b ]
 
@@ -109,6 +110,7 @@ pub record Changed : Type 0 where
   pub state : State
   pub news : List Ends
 
+-- the answer with the number k, and what a run leaves of an accepted change
 unfoldable pub refused : ℕ → Answer
 refused k = record { number = k; draws = 0; falls = 0; pairs = 0 }
 

@@ -19,6 +19,7 @@ pub record RunAnswer : Type 0 where
   pub line : ℕ
   pub length : ℕ
 
+-- the answer of a run that was turned back
 abbrev pub turnedBack : ℕ → ℕ → RunAnswer
 turnedBack k line = record { number = k; line = line; length = 0 }
 

@@ -13,6 +13,7 @@ use Rattle.model.specs.Bytes.{most}
 abbrev pub IsBytes : List ℕ → Type 0
 IsBytes bs = (k : ℕ) → getD bs k 0 < 256
 
+-- a valid state, condition by condition
 pub record Valid (R : Rules) (s : State) : Type 0 where
   pub some : 1 ≤ s .n
   pub few : s .n ≤ most

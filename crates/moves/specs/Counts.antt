@@ -25,6 +25,7 @@ zeroedBelow bs u (suc k) = setPhi (zeroedBelow bs u k) u k 0
 unfoldable pub hit : State → ℕ → ℕ → ℕ → ℕ → Bool
 hit s i u w j = s .owns u w && (leb (s .rank u) j && (leb (s .rank w) j && leb j i))
 
+-- the counts after that
 unfoldable pub loweredCounts : State → ℕ → ℕ → ℕ → ℕ → ℕ
 loweredCounts s i u w j = elim (hit s i u w j) [ true ↦ phi s w j - 1 | false ↦ phi s w j ]
 
