@@ -25,6 +25,7 @@ use Rattle.lines.specs.declared.WordsRead.the-variants.{Words, NoWords}
 use Rattle.lines.specs.declared.ChangeRead.{ChangeRead}
 use Rattle.lines.specs.declared.ChangeRead.the-variants.{Line, NoLine}
 
+-- line 1; a change's code, its vertices and its words; and its line as a whole: each is found there, or absent
 abbrev pub RackAt : List ℕ → ℕ → RackRead → Type 0
 RackAt s at (Rack n next) = Found rackLine Fit s at n next
 RackAt s at NoRack = Absent rackLine Fit s at

@@ -18,6 +18,7 @@ IsCode code = (code ≡ 1) ⊎ (code ≡ 2)
 unfoldable pub endsText : Ends → List ℕ
 endsText e = decimal (e .a) ++ (bytes " " ++ (decimal (e .b) ++ bytes ") (draws"))
 
+-- numbers of 32 bits: two vertices, one number, and at most 128 words
 abbrev pub FitEnds : Ends → Type 0
 FitEnds e = (e .a ≤ largest) × (e .b ≤ largest)
 

@@ -12,11 +12,13 @@ pub enum RackRead {
     NoRack,
 }
 
+// The code that a change's line begins with, and the position after it.
 pub enum CodeRead {
     Code(u32, usize),
     NoCode,
 }
 
+// The two vertices, and the position after them.
 pub enum EndsRead {
     Pair(u32, u32, usize),
     NoPair,
