@@ -138,10 +138,10 @@ same-length : tie.Need-same-length Inv-loop μ-loop
 same-length c = held-sized (sounded-held _ (c .before .before .before .before .before .before .loop .inv .sounded)) ∙ sym (held-sized (sounded-held _ (c .before .before .before .before .before .before .before .before .before .before .before .pre .0)))
 
 same-length-2 : tie.Need-same-length-2 Inv-loop μ-loop
-same-length-2 c = put-kept (going-end (c .before .before .before .before .before .before .loop .inv) (c .before .before .before .before .before .loop-test .left) (c .before .before .put-ending .ensures) .prints) (ended c)
+same-length-2 c = put-kept (going-end (c .before .before .before .before .before .before .loop .inv) (omega (arith, c .before .before .before .before .before .loop-test .left)) (c .before .before .put-ending .ensures) .prints) (ended c)
 
 returns : tie.Need-returns Inv-loop μ-loop
-returns c = going-end (c .before .before .before .before .before .before .loop .inv) (c .before .before .before .before .before .loop-test .left) (c .before .before .put-ending .ensures)
+returns c = going-end (c .before .before .before .before .before .before .loop .inv) (omega (arith, c .before .before .before .before .before .loop-test .left)) (c .before .before .put-ending .ensures)
 
 pub put-changes-spec : {M : Type 1} → statement M
 put-changes-spec =
