@@ -18,6 +18,7 @@ use Rattle.theory.proofs.OnBytes.{step}
 use Rattle.text.specs.Writing.{Put}
 use Rattle.text.proofs.Over.{part, back, put-as, put-none, put-then}
 use Rattle.text.proofs.Answers.{answer-most}
+use Rattle.record.specs.Line.{answerRoom}
 use Rattle.trace.specs.Check.{headOf, wordsOf, Kept}
 use Rattle.trace.proofs.Bound.{pairs-most, end-most}
 use Rattle.trace.proofs.RecordFits.{valid-small, valid-figures}
@@ -51,7 +52,7 @@ pub record Going (heads words : List ℕ) (n : ℕ) (rack₀ rack out₀ out : L
   pub done : List ℕ
   pub wrote : Put done out₀ out at
   pub whole : changesText base (read rack₀) changes ≡ done ++ changesText base (read rack) rest
-  pub room : at + 64 * length rest + endingRoom ≤ length out₀
+  pub room : at + answerRoom * length rest + endingRoom ≤ length out₀
 
 pub going-start : (heads words : List ℕ) (n : ℕ) (rack out : List ℕ) → Sounded rack → Ready heads words n (length out)
     → Going heads words n rack rack out out 0 0 0
@@ -118,7 +119,7 @@ module _ {heads words : List ℕ} {n : ℕ} {rack₀ rack out₀ out : List ℕ}
 
   module _ (t : Turn) where
     -- there is room for a line, and for the ending after it
-    pub going-room : at + 64 + endingRoom ≤ length out₀
+    pub going-room : at + answerRoom + endingRoom ≤ length out₀
     going-room = omega (arith, g .room, ap length (t .are))
 
     -- the change was made, and its line written

@@ -6,18 +6,19 @@ use Prim.Native.Nat.{ℕ, _+_, _*_, _≤_}
 use lib.Dec.{ltb}
 use lib.ListN.{length}
 use Rattle.model.specs.State.{State, base, empty}
-use Rattle.model.specs.Bytes.{read, write}
+use Rattle.model.specs.Bytes.{most, read, write}
 use Rattle.model.specs.Change.{Change}
 use Rattle.model.specs.Trace.{rackLine}
 use Rattle.model.specs.Record.{pairLine, pairLines, endLine, after, changesText, recordText}
 use Rattle.model.specs.Run.{turnedBack, RunAnswer as AnswerOf, Ran, output}
 use Rattle.text.specs.Writing.{Put}
+use Rattle.record.specs.Line.{answerRoom, pairRoom, endRoom}
 use Rattle.trace.specs.Check.{Kept}
 use Rattle.run.specs.declared.RunAnswer.{RunAnswer}
 
--- the room that the lines after those of the changes need: 50 bytes for each vertex, and the end line
+-- the room that the lines after those of the changes need: a pair's line for each vertex, and the end line
 abbrev pub endingRoom : ℕ
-endingRoom = 50 * 256 + 25
+endingRoom = pairRoom * most + endRoom
 
 -- v's line among those of the pairs, if v is the lower vertex of one
 unfoldable pub pairPart : State → ℕ → List ℕ
@@ -32,7 +33,7 @@ pub record Ready (heads words : List ℕ) (n room : ℕ) : Type 0 where
   pub changes : List Change
   pub kept : Kept heads words changes
   pub count : n ≡ length changes
-  pub enough : 64 * n + endingRoom ≤ room
+  pub enough : answerRoom * n + endingRoom ≤ room
 
 -- those changes were made on the rack, and their lines and the ending printed
 pub record Played (heads words : List ℕ) (n : ℕ) (rack last old new : List ℕ) (r : ℕ) : Type 0 where
@@ -47,7 +48,7 @@ pub record Recordable (heads words : List ℕ) (k n room : ℕ) : Type 0 where
   pub changes : List Change
   pub kept : Kept heads words changes
   pub count : k ≡ length changes
-  pub enough : length (rackLine n) + 64 * k + endingRoom ≤ room
+  pub enough : length (rackLine n) + answerRoom * k + endingRoom ≤ room
 
 -- that record was printed, and the rack is left as its changes leave it
 pub record Written (heads words : List ℕ) (k n : ℕ) (last old new : List ℕ) (r : ℕ) : Type 0 where

@@ -191,7 +191,8 @@ fn taken(
     }
 }
 
-// "prints the record, or `(bad K L)`": the text to print stands at the start of the space, and its length is the answer.
+// "prints the record, or `(bad K L)`": the text to print stands at the start of the space, and its length is the answer. It is no call for
+// others: the program lends it a space of its own, long enough for either.
 pub fn show(rack: &mut [u8], text: &[u8], space: &mut [u8]) -> usize
     requires { ⌜ spaceLength ≤ length (now space) ⌝ }
     ensures { λ r. ⌜ Shown (now (rack .entry)) (now (text .entry)) (now (space .entry)) (now (rack .exit)) (now (space .exit)) r ⌝ }

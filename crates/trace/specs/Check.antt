@@ -24,7 +24,8 @@ pub record HeadAt (heads : List ℕ) (k : ℕ) (h : Head) : Type 0 where
   pub b : h .b ≡ getD heads (4 * k + 2) 0
   pub count : h .count ≡ getD heads (4 * k + 3) 0
 
--- the changes stand at the start of both lists, their heads in one and their words in the other, one change after the other
+-- the changes stand at the start of both lists, their heads in one and their words in the other, one change after the other; what the
+-- places after them hold is of no account
 pub record Kept (heads words : List ℕ) (cs : List Change) : Type 0 where
   pub heads-rest : List ℕ
   pub heads-are : heads ≡ texts headOf cs ++ heads-rest

@@ -1,5 +1,6 @@
 // A whole trace text, read in one go: whether it fits the grammar, and if not, its first line that doesn't. The changes that it holds are kept
-// as numbers, so that no byte of the text is read twice.
+// as numbers, so that no byte of the text is read twice. These are steps of a run, and no calls for others: `run` tests the text's length before,
+// and lends the places that `heads_space` and `words_space` make.
 use lines::ChangeRead;
 use lines::RackRead;
 ghost use mathlib.Core.Path.{_≡_};
@@ -49,7 +50,7 @@ fn put_head(heads: &mut [u32], at: usize, code: u32, a: u32, b: u32, count: u32)
     heads[at + 3] = count;
 }
 
-// The k-th head.
+// The k-th head, of those that were stored.
 pub fn head_at(heads: &[u32], k: usize) -> Head
     requires { ⌜ 4 * k + 4 ≤ length (now heads) ⌝ }
     ensures { λ r. ⌜ HeadAt (now (heads .entry)) k r ⌝ }

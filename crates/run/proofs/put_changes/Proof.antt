@@ -11,6 +11,7 @@ use Rattle.text.proofs.Over.{back, put-as, put-kept, length-part}
 use Rattle.moves.proofs.Held.{held-sized}
 use Rattle.changes.specs.Sounded.{brought}
 use Rattle.changes.proofs.Wholes.{sounded-held}
+use Rattle.run.specs.Runs.{endingRoom}
 use Rattle.run.proofs.Turns.{ending-most, Going, going-start, Turn, turn-of, going-room, going-turn, going-end}
 use borrow.Author.Needs.{needs}
 use Rattle.run.proofs.put_changes.Statement.{statement}
@@ -106,7 +107,7 @@ loop-again : tie.Need-loop-again Inv-loop μ-loop
 loop-again c = next c
 
 -- there is room for the ending
-space : (c : tie.After-put-ending-arg Inv-loop μ-loop) → c .before .before .loop .at + 12825 ≤ length (c .before .before .loop .out)
+space : (c : tie.After-put-ending-arg Inv-loop μ-loop) → c .before .before .loop .at + endingRoom ≤ length (c .before .before .loop .out)
 space c =
     let g = c .before .before .loop .inv in
     omega (arith, g .room, put-kept (g .wrote) (omega (arith, g .room)))

@@ -4,25 +4,9 @@ use super::lengths::exact;
 use super::Case;
 use reference::TEXT_LIMIT;
 
-const EXAMPLE: &str = "\
-(rack (boards 4))
-(add (0 1) (draws 0 0))
-(add (1 2) (draws 0 0))
-(add (2 3) (draws 0 0))
-(drop (0 1) (draws 0 0))
-(add (2 3) (draws 0 0))
-";
-
-const EXAMPLE_RECORD: &str = "\
-(rack (boards 4))
-(done (draws 1) (falls 0) (pairs 1))
-(done (draws 0) (falls 0) (pairs 1))
-(done (draws 1) (falls 0) (pairs 2))
-(done (draws 0) (falls 2) (pairs 1))
-(refused 10)
-(pair (2 3) (level 0))
-(end (pairs 1))
-";
+/// The worked example, as the program has it stored.
+const EXAMPLE: &str = include_str!("../../../../crates/rack/stdin");
+const EXAMPLE_RECORD: &str = include_str!("../../../../crates/rack/stdout");
 
 /// A run with the number, the line and, for the example, the record stated.
 pub struct Stated {
