@@ -4,9 +4,18 @@ use mathlib.Core.Path.{_≡_, refl}
 use mathlib.Core.Bool.{_&&_, _||_, cond}
 use mathlib.Core.List.{List, [], _∷_, map}
 use Prim.Native.Nat.{ℕ, _+_, _-_, _%_}
-use lib.Dec.{eqb, leb, ltb}
-use Rattle.model.specs.State.{State}
+use native.Mathlib.Nat.{one-le-pow}
+use native.Mathlib.Omega.{arith}
+use lib.Dec.{T, eqb, leb, ltb, ltb→lt}
+use Rattle.model.specs.Counting.{sum, count, every}
+use Rattle.model.specs.State.{State, base, edge, near, below, phi}
+use Rattle.model.specs.Bytes.{write}
+use Rattle.model.specs.Sound.{sound}
+use Rattle.model.specs.Valid.{Valid}
 use Rattle.model.specs.Change.{Change}
+use Rattle.model.proofs.Tests.{and-left, and-right, leb-yes}
+use Rattle.model.proofs.Bridge.{write-sound}
+use Rattle.model.proofs.Tested.{tested, tested-valid}
 use Rattle.model.proofs.Table.{Row, from, made, computed, expected, adds, drops, pair}
 use Rattle.model.proofs.Bench.{zeros, star, hub}
 
@@ -19,6 +28,20 @@ crowd = record {
   mate = λ v. cond (leb 17 v) v (cond (eqb v 0) 1 (cond (eqb v 1) 0 (cond (leb v 4) v (cond (eqb (v % 2) 1) (v + 1) (v - 1)))));
   owns = λ v w. ltb v 17 && (ltb w 17 && (eqb v 0 && (leb 1 w && leb w 3) || leb 5 v && (eqb w 0 || eqb (v % 2) 1 && eqb w (v + 1))));
 }
+
+-- It is sound: a valid rack, by a test of its 17 vertices, and so are its bytes.
+pub crowd-valid : Valid base crowd
+unfolding crowd base
+crowd-valid =
+    tested-valid base (λ j. one-le-pow j 4 (omega arith)) crowd (omega arith) (omega arith)
+    (λ v w t. (ltb→lt v 17 (and-left (ltb v 17) _ t), ltb→lt w 17 (and-left (ltb w 17) _ (and-right (ltb v 17) _ t))))
+    (λ v l. rw (leb-yes 17 v l) refl)
+    (λ v l. rw (leb-yes 17 v l) refl)
+    (unfold tested every sum count edge near below phi in tt)
+
+pub crowd-sound : T (sound base (write crowd))
+unfolding base
+crowd-sound = write-sound base (omega arith) crowd crowd-valid
 
 words : List ℕ
 words = 1 ∷ 0 ∷ 0 ∷ 0 ∷ 0 ∷ 0 ∷ 0 ∷ 0 ∷ []

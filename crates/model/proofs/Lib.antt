@@ -10,6 +10,7 @@ pub mod Facts
 pub mod Limits
 pub mod Reading
 pub mod Bridge
+pub mod Tested
 pub mod Table
 pub mod Bench
 pub mod Hands

@@ -11,7 +11,7 @@ use Rattle.model.specs.State.{State, phi, edges}
 abbrev pub rackLength : ℕ
 rackLength = 9992
 
--- the most vertices that a rack has, and how many counts each has
+-- the most vertices that a rack has: "n from 1 to 256"
 abbrev pub most : ℕ
 most = 256
 

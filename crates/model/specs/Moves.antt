@@ -100,8 +100,8 @@ scan R words i (w ∷ l) r = elim (due R i w (r .state)) [ true ↦ scan R words
 unfoldable pub scanFrom : Rules → List ℕ → ℕ → ℕ → Run → Run
 scanFrom R words i v r = scan R words i (listed (r .state .owns v) (r .state .n)) r
 
--- "Taking a waiting v at level i: v hands each owned link [..] on. Let k be its neighbours below i. If k is at least 4^i, v draws.
--- If not, v falls to i-1." and the scan
+-- "Taking a waiting v at level i: v hands each owned link whose other end is also at level i to that end. Let k be its neighbours below i.
+-- If k is at least 4^i, v draws. If not, v falls to i-1. Then the boards to which v owned links [..] are gone through"
 unfoldable pub take : Rules → List ℕ → ℕ → ℕ → Run → Run
 take R words i v r =
     let q = at r (handOver i v (r .state)) in

@@ -29,7 +29,7 @@ module _ (s : State) (ok : Valid base s) (c : Change) where
   t = step s ok c
 
   -- the ledger after the change is that of the rack after it
-  next-ledger : entered (ledger s) c ≡ ledger (change base s c .state)
+  pub next-ledger : entered (ledger s) c ≡ ledger (change base s c .state)
   next-ledger = λ i. record { n = (t .ledger-size ∙ sym (t .size)) i; there = sym (t .edges) i }
 
   one-call : Call (ledger s) (write s) c (leaves s c)
@@ -52,7 +52,7 @@ module _ (s : State) (ok : Valid base s) (c : Change) where
   }
 
 -- from the bytes of a valid state, with its own ledger
-from-valid : (s : State) → Valid base s → (cs : List Change) → Demand (ledger s) (write s) cs
+pub from-valid : (s : State) → Valid base s → (cs : List Change) → Demand (ledger s) (write s) cs
 unfolding Calls enteredAll lastRack leaves
 from-valid s ok [] = record { calls = tt; last = last-facts s ok }
 from-valid s ok (c ∷ cs) =

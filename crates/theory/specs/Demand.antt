@@ -22,9 +22,13 @@ unfoldable pub lastRack : List ℕ → List Change → List ℕ
 lastRack bs [] = bs
 lastRack bs (c ∷ cs) = lastRack (changeBytes base bs c .rack) cs
 
--- "The pairs are the book's links whose ends name each other as mates": their number, each counted at its lower end
+-- "The pairs are the book's links whose ends name each other as mates": whether v-w is one, v the lower end
+abbrev pub isPair : Ledger → List ℕ → ℕ → ℕ → Bool
+isPair l bs v w = ltb v w && (l .there v w && (eqb (mateAt bs v) w && eqb (mateAt bs w) v))
+
+-- the number of pairs
 unfoldable pub pairsOf : Ledger → List ℕ → ℕ
-pairsOf l bs = sum (λ v. count (λ w. ltb v w && (l .there v w && (eqb (mateAt bs v) w && eqb (mateAt bs w) v))) (l .n)) (l .n)
+pairsOf l bs = sum (λ v. count (isPair l bs v) (l .n)) (l .n)
 
 -- the number of mated vertices
 unfoldable pub matedOf : Ledger → List ℕ → ℕ

@@ -1,0 +1,192 @@
+-- Demand 3 of a run: whatever text a run takes, its record and the rack that it leaves are as the link book (the edge ledger) says, since
+-- `run::run` meets its contract. The statement is `RunDemand` (specs/RunDemand.antt). Assumes nothing.
+use mathlib.Core.Path.{_≡_, refl, sym, ap, _∙_, subst}
+use mathlib.Core.Logic.{_≢_, inl, inr}
+use mathlib.Core.Bool.{Bool, true, false}
+use mathlib.Core.List.{List, [], _∷_, _++_, append-assoc}
+use Prim.Native.Nat.{ℕ, _+_, _-_, _<_}
+use native.Mathlib.Omega.{arith}
+use lib.Dec.{T, ltb, eqb, ltb→lt, eqb→eq, lt→ltb}
+use lib.ListN.{length, take, drop}
+use lib.Seq.{take-at}
+use Rattle.model.specs.Counting.{each}
+use Rattle.model.specs.State.{State, base, empty, edge}
+use Rattle.model.specs.Bytes.{rankAt, mateAt, read, write}
+use Rattle.model.specs.Sound.{sizeGood}
+use Rattle.model.specs.Valid.{Valid}
+use Rattle.model.specs.Text.{bytes, decimal, over}
+use Rattle.model.specs.Change.{Change, Changed, change}
+use Rattle.model.specs.Calls.{ChangedBytes, changeBytes}
+use Rattle.model.specs.Ledger.{Ledger, ledgerNumber, entered, enteredAll}
+use Rattle.model.specs.Trace.{Trace, Holds, rackLine}
+use Rattle.model.specs.Record.{answerLine, pairLine, pairLines, endLine, after, changesText, recordText}
+use Rattle.model.specs.Run.{Ran, rack-length, text-long, space-short, bad-line, bad-size, ran, RunAnswer as AnswerOf}
+use Rattle.model.proofs.Tests.{eq?, le?, true-T, and-intro, and-left, and-right, eqb-yes}
+use Rattle.model.proofs.Chunks.{each-ext, each-none, each-only}
+use Rattle.model.proofs.Lists.{listed-texts}
+use Rattle.model.proofs.Reading.{read-write}
+use Rattle.theory.specs.Demand.{lastRack, isPair, pairsOf, Mates, Call, Calls, Facts, Demand}
+use Rattle.theory.proofs.ChangeStep.{ledger}
+use Rattle.theory.proofs.Matching.{base-pos, empty-valid}
+use Rattle.theory.proofs.OnBytes.{step, call-leaves, pairs-of}
+use Rattle.theory.proofs.LastRack.{last-facts}
+use Rattle.theory.proofs.ListTheorem.{next-ledger, from-valid}
+use Rattle.text.proofs.Answers.{refused-line}
+use Rattle.record.specs.Line.{pairText, endText}
+use Rattle.record.proofs.Laws.{end-line}
+use Rattle.changes.specs.Sounded.{Sounded}
+use Rattle.changes.proofs.Answered.{sounded-of}
+use Rattle.run.specs.Runs.{pairPart, told}
+use Rattle.run.specs.declared.RunAnswer.{RunAnswer}
+use Rattle.run.specs.RunDemand.{blank, answerBy, changesBy, pairsBy, endingBy, RunDemand}
+use Rattle.run.proofs.Pairs.{part-free, part-upper, part-line}
+use Rattle.run.proofs.Whole.{size-range}
+
+-- A change's line is the ledger's: refused, it shows the number alone, and accepted, its pairs are the ledger's.
+line-by : {l : Ledger} {bs : List ℕ} {c : Change} {d : ChangedBytes} → Call l bs c d → answerLine (d .answer) ≡ answerLine (answerBy l c d)
+unfolding answerBy
+line-by {l} {bs} {c} {d} h = elim (eq? (ledgerNumber l c) 0) [
+  | inl e ↦ λ i. answerLine (record {
+    number = h .number i;
+    draws = d .answer .draws;
+    falls = d .answer .falls;
+    pairs = h .accepted-pairs e i;
+  })
+  | inr e ↦
+      refused-line (d .answer) (λ z. e (sym (h .number) ∙ z))
+      ∙ ap (λ (k : ℕ). bytes "(refused " ++ (decimal k ++ bytes ")\n")) (h .number)
+      ∙ sym (refused-line (answerBy l c d) e)
+]
+
+-- a text that stands there by a test
+shown : (b : Bool) (x : List ℕ) → T b → elim b [ true ↦ x | false ↦ [] ] ≡ x
+shown true x h = refl
+shown false x h = absurd h
+
+left-out : (b : Bool) (x : List ℕ) → (T b → ⊥) → _≡_ {A = List ℕ} (elim b [ true ↦ x | false ↦ [] ]) []
+left-out true x h = absurd (h tt)
+left-out false x h = refl
+
+-- The lines of the pairs, vertex by vertex, in a sound rack of which the facts hold.
+module _ (l : Ledger) (bs : List ℕ) (ok : Sounded bs) (F : Facts l bs) where
+  size-is : read bs .n ≡ l .n
+  size-is = unfold read in F .size
+
+  -- the line of the edge v-w, if it is a pair
+  abbrev line : ℕ → ℕ → List ℕ
+  line v w = elim (isPair l bs v w) [ true ↦ pairText v w (rankAt bs v - 1) | false ↦ [] ]
+
+  -- a pair of v is v's mate, above v
+  mate-of : (v w : ℕ) → T (isPair l bs v w) → (v < w) × (mateAt bs v ≡ w)
+  mate-of v w t = (
+    ltb→lt v w (and-left (ltb v w) _ t),
+    eqb→eq (mateAt bs v) w (and-left (eqb (mateAt bs v) w) _ (and-right (l .there v w) _ (and-right (ltb v w) _ t))),
+  )
+
+  none : (v w : ℕ) → (T (isPair l bs v w) → ⊥) → line v w ≡ []
+  none v w h = left-out (isPair l bs v w) _ h
+
+  -- v's mate, above v, is a pair of v
+  pair-of : (v : ℕ) → v < l .n → mateAt bs v ≢ 65535 → v < mateAt bs v → T (isPair l bs v (mateAt bs v))
+  pair-of v b d h =
+      let m : ℕ = mateAt bs v in
+      let M : Mates l bs v m = F .mates v b d in
+      and-intro (ltb v m) _ (lt→ltb v m h)
+      (and-intro (l .there v m) _ (M .linked)
+      (and-intro (eqb m m) _ (true-T (eqb-yes m m refl)) (true-T (eqb-yes (mateAt bs m) v (M .back)))))
+
+  lines-of : (v : ℕ) → v < l .n → pairPart (read bs) v ≡ each (l .n) (line v)
+  lines-of v b =
+      let c : v < read bs .n = omega (arith, size-is) in
+      elim (eq? (mateAt bs v) 65535) [
+        | inl e ↦ part-free bs ok v c e
+            ∙ sym (each-none (line v) (l .n) (λ w k. none v w (λ t. omega (arith, mate-of v w t .1, size-is, ok .valid .few))))
+        | inr d ↦ elim (le? (mateAt bs v) v) [
+          | inl h ↦ part-upper bs ok v c h ∙ sym (each-none (line v) (l .n) (λ w k. none v w (λ t. omega (arith, mate-of v w t))))
+          | inr h ↦
+              let t = pair-of v b d h in
+              part-line bs ok v c d h
+              ∙ sym (shown (isPair l bs v (mateAt bs v)) _ t)
+              ∙ sym (each-only (line v) (mateAt bs v) (l .n) (F .inside v (mateAt bs v) (F .mates v b d .linked) .1)
+              (λ w k ne. none v w (λ u. ne (sym (mate-of v w u .1)))))
+        ]
+      ]
+
+  pairs-by : pairLines (read bs) ≡ pairsBy l bs
+  unfolding pairLines pairsBy pairPart
+  pairs-by =
+      listed-texts (pairLine (read bs)) (λ v. ltb v (read bs .mate v)) (read bs .n)
+      ∙ each-ext _ _ (read bs .n) (λ v b. lines-of v (omega (arith, size-is)))
+      ∙ ap (λ (k : ℕ). each k (λ v. each (l .n) (line v))) size-is
+
+-- The record of a list of changes, from the bytes of a valid state, with its own ledger.
+ending-by : (s : State) → Valid base s → pairLines s ++ endLine s ≡ endingBy (ledger s) (write s)
+unfolding endingBy
+ending-by s ok =
+    let p : pairLines s ≡ pairsBy (ledger s) (write s) =
+    ap pairLines (sym (read-write base s ok)) ∙ pairs-by (ledger s) (write s) (sounded-of (write s) s refl ok) (last-facts s ok) in
+    let e : endLine s ≡ endText (pairsOf (ledger s) (write s)) = end-line s ∙ ap endText (pairs-of s ok) in
+    λ i. p i ++ e i
+
+last-by : (s : State) → Valid base s → (cs : List Change) → write (after base s cs) ≡ lastRack (write s) cs
+unfolding after lastRack
+last-by s ok [] = refl
+last-by s ok (c ∷ cs) =
+    last-by (change base s c .state) (step s ok c .valid) cs
+    ∙ ap (λ (x : ChangedBytes). lastRack (x .rack) cs) (sym (call-leaves s ok c))
+
+changes-by : (s : State) → Valid base s → (cs : List Change)
+    → changesText base s cs ≡ changesBy (ledger s) (write s) cs ++ endingBy (enteredAll (ledger s) cs) (lastRack (write s) cs)
+unfolding changesText changesBy enteredAll lastRack Calls
+changes-by s ok [] = ending-by s ok
+changes-by s ok (c ∷ cs) =
+    let d : Changed = change base s c in
+    let x : ChangedBytes = changeBytes base (write s) c in
+    let e : ledger (d .state) ≡ entered (ledger s) c = sym (next-ledger s ok c) in
+    let f : write (d .state) ≡ x .rack = ap (λ (y : ChangedBytes). y .rack) (sym (call-leaves s ok c)) in
+    let now : answerLine (d .answer) ≡ answerLine (answerBy (ledger s) c x) =
+    ap (λ (y : ChangedBytes). answerLine (y .answer)) (sym (call-leaves s ok c)) ∙ line-by (from-valid s ok (c ∷ []) .calls .0) in
+    let later : changesText base (d .state) cs
+    ≡ changesBy (entered (ledger s) c) (x .rack) cs ++ endingBy (enteredAll (entered (ledger s) c) cs) (lastRack (x .rack) cs) =
+    changes-by (d .state) (step s ok c .valid) cs
+    ∙ (λ i. changesBy (e i) (f i) cs ++ endingBy (enteredAll (e i) cs) (lastRack (f i) cs)) in
+    (λ i. now i ++ later i) ∙ sym (append-assoc (answerLine (answerBy (ledger s) c x)) (changesBy (entered (ledger s) c) (x .rack) cs) _)
+
+-- A trace of 1 to 256 vertices, run from a fresh rack.
+run-demand : (t : Trace) → sizeGood (t .n) ≡ true → RunDemand t (write (after base (empty (t .n)) (t .changes))) (recordText base t)
+unfolding recordText blank empty edge
+run-demand t e =
+    let r = size-range (t .n) e in
+    let ok : Valid base (empty (t .n)) = empty-valid base base-pos (t .n) (r .0) (r .1) in
+    let D : Demand (blank (t .n)) (write (empty (t .n))) (t .changes) = from-valid (empty (t .n)) ok (t .changes) in
+    let left = last-by (empty (t .n)) ok (t .changes) in
+    let book : Ledger = enteredAll (blank (t .n)) (t .changes) in
+    record {
+      demand = D;
+      left = left;
+      facts = subst (Facts book) (sym left) (D .last);
+      says =
+          ap (λ (x : List ℕ). rackLine (t .n) ++ x) (changes-by (empty (t .n)) ok (t .changes))
+          ∙ ap (λ (x : List ℕ). rackLine (t .n) ++ (changesBy (blank (t .n)) (write (empty (t .n))) (t .changes) ++ endingBy book x)) (sym left);
+    }
+
+-- what stands at the start of the space after a run
+front : (p space : List ℕ) → take (length p) (over 0 p space) ≡ p
+unfolding over
+front p space = take-at p (drop (0 + length p) space) (length p) refl
+
+of-ran : {rack text space last new : List ℕ} {a : AnswerOf} → Ran base rack text space a last new → a .number ≡ 0
+    → (t : Trace) × Holds text t × RunDemand t last (take (a .length) new)
+of-ran (rack-length z) e = absurd (omega arith)
+of-ran (text-long z s) e = absurd (omega arith)
+of-ran (space-short z s w) e = absurd (omega arith)
+of-ran (bad-line z s w b) e = absurd (omega arith)
+of-ran (bad-size z s w h g) e = absurd (omega arith)
+of-ran {space = space} (ran {t} z s w h g) e =
+    (t, h, subst (RunDemand t (write (after base (empty (t .n)) (t .changes)))) (sym (front (recordText base t) space)) (run-demand t g))
+
+-- Whatever bytes `run::run` was lent: if it answers 0, the text holds a trace, and the record that it tells of, and the rack, are as demand 3
+-- says of that trace.
+pub demand-three-of-run : {rack text space last new : List ℕ} (r : RunAnswer) → Ran base rack text space (told r) last new → r .number ≡ 0
+    → (t : Trace) × Holds text t × RunDemand t last (take (r .length) new)
+demand-three-of-run r h e = of-ran h e

@@ -1,0 +1,54 @@
+-- Demand 3 of a run: what the record of a text that is taken says, line by line, and what the rack then holds, by the link book (the edge
+-- ledger) that is kept from the text's changes alone. The theorem is `demand-three-of-run` (proofs/RunDemand.antt). Assumes nothing.
+use mathlib.Core.Path.{_≡_}
+use mathlib.Core.Bool.{true, false}
+use mathlib.Core.List.{List, [], _∷_, _++_}
+use Prim.Native.Nat.{ℕ, _-_}
+use Rattle.model.specs.Counting.{each}
+use Rattle.model.specs.State.{base, empty}
+use Rattle.model.specs.Bytes.{rankAt, write}
+use Rattle.model.specs.Change.{Change, Answer}
+use Rattle.model.specs.Calls.{ChangedBytes, changeBytes}
+use Rattle.model.specs.Ledger.{Ledger, ledgerNumber, entered, enteredAll}
+use Rattle.model.specs.Trace.{Trace, rackLine}
+use Rattle.model.specs.Record.{answerLine}
+use Rattle.theory.specs.Demand.{lastRack, isPair, pairsOf, Facts, Demand}
+use Rattle.record.specs.Line.{pairText, endText}
+
+-- the ledger of a fresh rack of n vertices: no link is there
+unfoldable pub blank : ℕ → Ledger
+blank n = record { n = n; there = λ v w. false }
+
+-- What a change's line has to say by the ledger l, where d is what its call did: the number is the ledger's, and the pairs are the ledger's
+-- links whose ends name each other just after it. The draws and the falls are those of the moves.
+unfoldable pub answerBy : Ledger → Change → ChangedBytes → Answer
+answerBy l c d = record {
+  number = ledgerNumber l c;
+  draws = d .answer .draws;
+  falls = d .answer .falls;
+  pairs = pairsOf (entered l c) (d .rack);
+}
+
+-- "one line for each change", by the ledger l, from the rack bs on
+unfoldable pub changesBy : Ledger → List ℕ → List Change → List ℕ
+changesBy l bs [] = []
+changesBy l bs (c ∷ cs) = let d = changeBytes base bs c in answerLine (answerBy l c d) ++ changesBy (entered l c) (d .rack) cs
+
+-- "then the pairs by rising lower board": a line for each link of the ledger whose ends name each other as mates, and no other line
+unfoldable pub pairsBy : Ledger → List ℕ → List ℕ
+pairsBy l bs = each (l .n) (λ v. each (l .n) (λ w. elim (isPair l bs v w) [ true ↦ pairText v w (rankAt bs v - 1) | false ↦ [] ]))
+
+-- "then the pairs by rising lower board, then the end line", by the ledger and the last rack
+unfoldable pub endingBy : Ledger → List ℕ → List ℕ
+endingBy l bs = pairsBy l bs ++ endText (pairsOf l bs)
+
+-- A run of the trace t that left the rack `last` and the record `text`: from a fresh rack, with a ledger that starts with no link and sees
+-- the changes alone.
+pub record RunDemand (t : Trace) (last text : List ℕ) : Type 0 where
+  -- demand 3 of its changes, each of them and the last rack
+  pub demand : Demand (blank (t .n)) (write (empty (t .n))) (t .changes)
+  -- the rack left is the last one of that list, so the facts are of its bytes, with the ledger's links
+  pub left : last ≡ lastRack (write (empty (t .n))) (t .changes)
+  pub facts : Facts (enteredAll (blank (t .n)) (t .changes)) last
+  -- the record is the one that the ledger asks for, to the byte
+  pub says : text ≡ rackLine (t .n) ++ (changesBy (blank (t .n)) (write (empty (t .n))) (t .changes) ++ endingBy (enteredAll (blank (t .n)) (t .changes)) last)
