@@ -24,7 +24,7 @@ impl Side {
     /// The audit's word.
     pub fn audit(self, rack: &RackBytes) -> bool {
         match self {
-            Side::Core => pairing::audit(rack) == (0, 1),
+            Side::Core => pairing::audit(rack).result() == Ok(true),
             _ => tuned::audit(rack),
         }
     }
@@ -34,7 +34,7 @@ impl Side {
         let &Change { code, a, b, .. } = change;
         if self == Side::Core {
             let answer = pairing::change(rack, code, a, b, words);
-            return [answer.number, answer.draws, answer.falls, answer.pairs];
+            return [answer.number.0, answer.draws, answer.falls, answer.pairs];
         }
         let answer = match self {
             Side::Bare => tuned::change_sound(rack, code, a, b, words),
@@ -48,7 +48,7 @@ impl Side {
     pub fn run(self, rack: &mut RackBytes, text: &[u8], space: &mut [u8]) -> (u32, usize) {
         if self == Side::Core {
             let outcome = pairing::run(rack, text, space);
-            return (outcome.number, outcome.length);
+            return (outcome.number.0, outcome.length);
         }
         let outcome = tuned::run(rack, text, space);
         (outcome.number, outcome.length)

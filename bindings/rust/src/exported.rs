@@ -2,16 +2,18 @@
 //! a slice is a pointer and its length in elements, a figure is a pointer to
 //! where it goes, and the result is the number.
 
+use crate::Number;
+
 extern "C" {
-    pub fn pairing_make(rack: *mut u8, len: usize, n: u32) -> u32;
+    pub fn pairing_make(rack: *mut u8, len: usize, n: u32) -> Number;
 
-    pub fn pairing_audit(rack: *const u8, len: usize, yes: *mut u32) -> u32;
+    pub fn pairing_audit(rack: *const u8, len: usize, yes: *mut u32) -> Number;
 
-    pub fn pairing_level(rack: *const u8, len: usize, v: u32, level: *mut i32) -> u32;
+    pub fn pairing_level(rack: *const u8, len: usize, v: u32, level: *mut i32) -> Number;
 
-    pub fn pairing_mate(rack: *const u8, len: usize, v: u32, mate: *mut u32) -> u32;
+    pub fn pairing_mate(rack: *const u8, len: usize, v: u32, mate: *mut u32) -> Number;
 
-    pub fn pairing_linked(rack: *const u8, len: usize, v: u32, w: u32, linked: *mut u32) -> u32;
+    pub fn pairing_linked(rack: *const u8, len: usize, v: u32, w: u32, linked: *mut u32) -> Number;
 
     pub fn pairing_change(
         rack: *mut u8,
@@ -24,7 +26,7 @@ extern "C" {
         draws: *mut u32,
         falls: *mut u32,
         pairs: *mut u32,
-    ) -> u32;
+    ) -> Number;
 
     pub fn pairing_run(
         rack: *mut u8,
@@ -35,5 +37,5 @@ extern "C" {
         space_len: usize,
         line: *mut usize,
         length: *mut usize,
-    ) -> u32;
+    ) -> Number;
 }

@@ -4,133 +4,137 @@
 //! vertices and a maximal matching of it. Document 01 calls a vertex a board
 //! and an edge a link; a vertex without a mate is free ("idle").
 //!
-//! Every call gives a number: 0 if it ran, or the first reason that fits for
-//! which it was turned back. Turned back, it writes nothing lent, and every
-//! other figure is 0.
-//!
-//! - 1: the rack buffer isn't 9,992 bytes
-//! - 2: the trace text is over 16,384 bytes
-//! - 3: the record space is under 65,536 bytes
-//! - 4: the trace text doesn't fit the grammar
-//! - 5: the number of vertices asked for isn't 1 to 256
-//! - 6: the rack isn't sound
-//! - 7: the change code is neither 1 (add) nor 2 (drop)
-//! - 8: a vertex named is n or more
-//! - 9: the two vertices named are the same
-//! - 10: an edge to add is there already
-//! - 11: an edge to drop isn't there
-//! - 12: fewer words are lent than n div 2
+//! Every call gives a [`Number`], which says whether it ran or why it was
+//! turned back. Turned back, it writes nothing lent, and every other figure is
+//! 0. `result` makes a [`Result`] of an answer.
 //!
 //! ```
-//! let mut rack = vec![0; pairing::RACK_BYTES];
-//! assert_eq!(pairing::make(&mut rack, 4), 0);
-//! let answer = pairing::change(&mut rack, pairing::ADD, 0, 1, &[0, 0]);
-//! assert_eq!((answer.number, answer.draws, answer.pairs), (0, 1, 1));
-//! assert_eq!(pairing::mate(&rack, 0), (0, 1));
+//! use pairing::{Number, ADD, RACK_BYTES};
+//!
+//! fn main() -> Result<(), Number> {
+//!     let mut rack = [0; RACK_BYTES];
+//!     pairing::make(&mut rack, 4).result()?;
+//!
+//!     // The edge 0-1; of the two words lent, one is used.
+//!     let answer = pairing::change(&mut rack, ADD, 0, 1, &[0, 0]).result()?;
+//!     assert_eq!((answer.draws, answer.falls, answer.pairs), (1, 0, 1));
+//!     assert_eq!(pairing::mate(&rack, 0).result()?, Some(1));
+//!     assert_eq!(pairing::mate(&rack, 2).result()?, None);
+//!     assert_eq!(pairing::level(&rack, 0).result()?, 0);
+//!     assert!(pairing::linked(&rack, 1, 0).result()?);
+//!     assert!(pairing::audit(&rack).result()?);
+//!
+//!     // The same edge again is refused, and no byte changes.
+//!     let again = pairing::change(&mut rack, ADD, 1, 0, &[0, 0]);
+//!     assert_eq!(again.number, Number::EDGE_PRESENT);
+//!     Ok(())
+//! }
 //! ```
 //!
-//! The same change as a trace text, and its record:
+//! The same changes as a trace text, and its record:
 //!
 //! ```
-//! let mut rack = vec![0; pairing::RACK_BYTES];
-//! let mut space = vec![0; pairing::RECORD_SPACE];
-//! let text = b"(rack (boards 4))\n(add (0 1) (draws 0 0))\n(add (0 1) (draws 0 0))\n";
-//! let outcome = pairing::run(&mut rack, text, &mut space);
-//! assert_eq!(outcome.number, 0);
+//! use pairing::{Number, RACK_BYTES, RECORD_SPACE};
+//!
+//! let mut rack = vec![0; RACK_BYTES];
+//! let mut space = vec![0; RECORD_SPACE];
+//! let text = b"(rack (boards 4))\n(add (0 1) (draws 0 0))\n(add (1 0) (draws 0 0))\n";
+//! let length = pairing::run(&mut rack, text, &mut space).result()?;
 //! let record = "(rack (boards 4))\n\
 //!               (done (draws 1) (falls 0) (pairs 1))\n\
 //!               (refused 10)\n\
 //!               (pair (0 1) (level 0))\n\
 //!               (end (pairs 1))\n";
-//! assert_eq!(&space[..outcome.length], record.as_bytes());
-//! assert_eq!(pairing::mate(&rack, 0), (0, 1));
+//! assert_eq!(&space[..length], record.as_bytes());
 //!
 //! // Without its last byte the text's third line doesn't fit.
 //! let outcome = pairing::run(&mut rack, &text[..text.len() - 1], &mut space);
-//! assert_eq!((outcome.number, outcome.line, outcome.length), (4, 3, 0));
+//! assert_eq!((outcome.number, outcome.line), (Number::BAD_LINE, 3));
+//! # Ok::<(), Number>(())
+//! ```
+//!
+//! A number in words:
+//!
+//! ```
+//! let refused = pairing::make(&mut [], 4).result().unwrap_err();
+//! let words = "1: the rack buffer isn't 9,992 bytes; lend exactly RACK_BYTES";
+//! assert_eq!(refused.to_string(), words);
 //! ```
 
+mod answers;
 mod exported;
+mod number;
+
+pub use answers::{Answer, Audit, Level, Linked, Mate, Outcome};
+pub use number::Number;
 
 /// The length of a rack.
 pub const RACK_BYTES: usize = 9_992;
 
-/// The most bytes of a trace text, and the least of a record space.
+/// The most vertices.
+pub const MOST_VERTICES: u32 = 256;
+
+/// The most bytes of a trace text.
 pub const TEXT_LIMIT: usize = 16_384;
+
+/// The least bytes of a record space: a record of any trace text fits.
 pub const RECORD_SPACE: usize = 65_536;
 
 /// The mate of a free vertex.
 pub const FREE: u32 = 65_535;
 
-/// The change codes.
+/// The code of a change that adds an edge.
 pub const ADD: u32 = 1;
+
+/// The code of a change that drops an edge.
 pub const DROP: u32 = 2;
 
 /// What stands in a figure before a call. Every figure is written by it; one
 /// left out would show.
 const UNWRITTEN: u32 = 0xdead_beef;
 
-/// The answer of a change: its number, the words it used, its moves down by one
-/// level, and the pairs then held.
-#[derive(Clone, Copy, Debug, PartialEq, Eq)]
-pub struct Answer {
-    pub number: u32,
-    pub draws: u32,
-    pub falls: u32,
-    pub pairs: u32,
-}
-
-/// The answer of a run: its number, the first line that doesn't fit if that is
-/// 4, and the record's length if it is 0.
-#[derive(Clone, Copy, Debug, PartialEq, Eq)]
-pub struct Outcome {
-    pub number: u32,
-    pub line: usize,
-    pub length: usize,
-}
-
 /// Makes the buffer a rack of n vertices without edges. The number is 0, 1 or
 /// 5.
-pub fn make(rack: &mut [u8], n: u32) -> u32 {
+pub fn make(rack: &mut [u8], n: u32) -> Number {
     // SAFETY: pointer and length are those of one slice, lent for the call.
     unsafe { exported::pairing_make(rack.as_mut_ptr(), rack.len(), n) }
 }
 
-/// Whether the rack is sound, 1 or 0. The number is 0 or 1.
-pub fn audit(rack: &[u8]) -> (u32, u32) {
+/// Whether the rack is sound. The number is 0 or 1.
+pub fn audit(rack: &[u8]) -> Audit {
     let mut yes = UNWRITTEN;
     // SAFETY: the slice is lent for the call and only read; `yes` is a local.
     let number = unsafe { exported::pairing_audit(rack.as_ptr(), rack.len(), &mut yes) };
-    (number, yes)
+    Audit { number, yes }
 }
 
-/// The level of vertex v, -1 to 3. The number is 0, 1, 6 or 8.
-pub fn level(rack: &[u8], v: u32) -> (u32, i32) {
+/// The level of vertex v. The number is 0, 1, 6 or 8.
+pub fn level(rack: &[u8], v: u32) -> Level {
     let mut level = UNWRITTEN as i32;
     // SAFETY: the slice is lent for the call and only read; `level` is a local.
     let number = unsafe { exported::pairing_level(rack.as_ptr(), rack.len(), v, &mut level) };
-    (number, level)
+    Level { number, level }
 }
 
-/// The mate of vertex v, or `FREE`. The number is 0, 1, 6 or 8.
-pub fn mate(rack: &[u8], v: u32) -> (u32, u32) {
+/// The mate of vertex v. The number is 0, 1, 6 or 8.
+pub fn mate(rack: &[u8], v: u32) -> Mate {
     let mut mate = UNWRITTEN;
     // SAFETY: the slice is lent for the call and only read; `mate` is a local.
     let number = unsafe { exported::pairing_mate(rack.as_ptr(), rack.len(), v, &mut mate) };
-    (number, mate)
+    Mate { number, mate }
 }
 
-/// Whether there is an edge v-w, 1 or 0. The number is 0, 1, 6, 8 or 9.
-pub fn linked(rack: &[u8], v: u32, w: u32) -> (u32, u32) {
+/// Whether there is an edge v-w. The number is 0, 1, 6, 8 or 9.
+pub fn linked(rack: &[u8], v: u32, w: u32) -> Linked {
     let mut linked = UNWRITTEN;
     // SAFETY: the slice is lent for the call and only read; `linked` is a local.
     let number = unsafe { exported::pairing_linked(rack.as_ptr(), rack.len(), v, w, &mut linked) };
-    (number, linked)
+    Linked { number, linked }
 }
 
-/// Adds (code 1) or drops (code 2) the edge a-b. The words decide which
-/// neighbours are drawn; the first of them are used, as many as the answer's
-/// draws. The number is 0, 1 or 6 to 12.
+/// Adds (code [`ADD`]) or drops (code [`DROP`]) the edge a-b and mends the
+/// matching. The words decide which neighbours are drawn; at least n div 2 of
+/// them must be lent. The number is 0, 1 or 6 to 12.
 pub fn change(rack: &mut [u8], code: u32, a: u32, b: u32, words: &[u32]) -> Answer {
     let [mut draws, mut falls, mut pairs] = [UNWRITTEN; 3];
     // SAFETY: both slices are lent for the call, the words only to be read; the figures are locals.

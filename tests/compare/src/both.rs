@@ -3,6 +3,7 @@
 
 use crate::asked::Asked;
 use crate::Verdict;
+use pairing::{Audit, Level, Linked, Mate};
 use reference::calls::change_rack;
 use reference::{Answer, Rack};
 use std::fmt::{self, Debug, Display, Formatter};
@@ -64,7 +65,7 @@ pub fn guarded<T>(
 
 /// Making a rack in a buffer that holds these bytes.
 pub fn make(buffer: &[u8], n: u32) -> Result<u32, String> {
-    let (core, bytes) = guarded(buffer, |rack| pairing::make(rack, n))?;
+    let (core, bytes) = guarded(buffer, |rack| pairing::make(rack, n).0)?;
     let mut wanted = buffer.to_vec();
     let number = reference::make(&mut wanted, n);
     let what = format!("make of {n} boards in {} bytes", buffer.len());
@@ -75,43 +76,45 @@ pub fn make(buffer: &[u8], n: u32) -> Result<u32, String> {
 
 /// The audit.
 pub fn audit(rack: &[u8]) -> Result<(u32, bool), String> {
+    let Audit { number, yes } = pairing::audit(rack);
+    let core = (number.0, yes);
     let (number, yes) = reference::audit(rack);
-    same("audit", pairing::audit(rack), (number, u32::from(yes)))?;
+    same("audit", core, (number, u32::from(yes)))?;
     Ok((number, yes))
 }
 
 /// The level of v and its mate; the number of the first.
 pub fn level_and_mate(rack: &[u8], v: u32) -> Result<u32, String> {
     let wanted = reference::level(rack, v);
-    same(
-        format_args!("level of {v}"),
-        pairing::level(rack, v),
-        wanted,
-    )?;
-    let mate = reference::mate(rack, v);
-    same(format_args!("mate of {v}"), pairing::mate(rack, v), mate)?;
+    let Level { number, level } = pairing::level(rack, v);
+    same(format_args!("level of {v}"), (number.0, level), wanted)?;
+    let Mate { number, mate } = pairing::mate(rack, v);
+    let told = format_args!("mate of {v}");
+    same(told, (number.0, mate), reference::mate(rack, v))?;
     Ok(wanted.0)
 }
 
 /// Whether v and w are linked; the number.
 pub fn linked(rack: &[u8], v: u32, w: u32) -> Result<u32, String> {
     let wanted = reference::linked(rack, v, w);
-    same(
-        format_args!("link {v}-{w}"),
-        pairing::linked(rack, v, w),
-        wanted,
-    )?;
+    let Linked { number, linked } = pairing::linked(rack, v, w);
+    same(format_args!("link {v}-{w}"), (number.0, linked), wanted)?;
     Ok(wanted.0)
 }
 
 /// One change of the core.
 fn core_change(rack: &mut [u8], asked: &Asked) -> Answer {
-    let answer = pairing::change(rack, asked.code, asked.a, asked.b, &asked.words);
+    let pairing::Answer {
+        number,
+        draws,
+        falls,
+        pairs,
+    } = pairing::change(rack, asked.code, asked.a, asked.b, &asked.words);
     Answer {
-        number: answer.number,
-        draws: answer.draws,
-        falls: answer.falls,
-        pairs: answer.pairs,
+        number: number.0,
+        draws,
+        falls,
+        pairs,
     }
 }
 

@@ -3,6 +3,7 @@
 use crate::asked::Asked;
 use crate::both::{self, same, Twin};
 use crate::Verdict;
+use pairing::{Level, Mate, Number};
 use reference::{Answer, Rack};
 
 /// A change: its code, two vertices and words, and its number, draws, falls
@@ -142,8 +143,9 @@ impl Case {
             let pair = self.pairs.iter().find(|(a, b, _)| *a == v || *b == v);
             let (mate, at) = pair.map_or((65_535, -1), |(a, b, level)| (a + b - v, *level));
             both::level_and_mate(rack, v as u32)?;
-            same("the level stated", pairing::level(rack, v as u32), (0, at))?;
-            let mate = (0, mate as u32);
+            let (number, mate) = (Number::OK, mate as u32);
+            let (level, mate) = (Level { number, level: at }, Mate { number, mate });
+            same("the level stated", pairing::level(rack, v as u32), level)?;
             same("the mate stated", pairing::mate(rack, v as u32), mate)?;
             for w in 0..=self.n {
                 both::linked(rack, v as u32, w as u32)?;

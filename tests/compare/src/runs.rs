@@ -66,10 +66,15 @@ fn core_run(rack: &[u8], text: &[u8], space: &[u8]) -> Result<(Outcome, Vec<u8>,
     };
     let (inner, rack) = guarded(rack, run)?;
     let (answer, space) = inner?;
+    let pairing::Outcome {
+        number,
+        line,
+        length,
+    } = answer;
     let outcome = Outcome {
-        number: answer.number,
-        line: answer.line,
-        length: answer.length,
+        number: number.0,
+        line,
+        length,
     };
     Ok((outcome, rack, space))
 }
