@@ -4,8 +4,9 @@
  * Document 01 calls a vertex a board, an edge a link, and the bytes a rack; a vertex without a mate is free ("idle").
  *
  * Every function gives a number: 0 if it ran, or the first reason that fits for which it was turned back. Turned back, it writes nothing
- * lent, and every other figure is 0. All figures are written at each call. No pointer may be null, and what is lent to one call may not
- * overlap. A length is in elements: bytes of the rack, of a text or of a record space, or words.
+ * lent, and every other figure is 0. All figures are written at each call. What is lent to one call may not overlap. A length is in elements:
+ * bytes of the rack, of a text or of a record space, or words. If it is 0, nothing is read or written through the pointer before it, which may
+ * then be any, null too; no other pointer may be null.
  */
 #ifndef PAIRING_H
 #define PAIRING_H
@@ -26,6 +27,13 @@ extern "C" {
 /* The most bytes of a trace text, and the least of a record space: a record of any such text fits. */
 #define PAIRING_TEXT_LIMIT 16384
 #define PAIRING_RECORD_SPACE 65536
+
+/*
+ * The stack in bytes that a call needs beside its caller's own: most of it for the running of a trace text. Measured with a margin, and held to
+ * by a test (tests/stack.c); no proof bounds it.
+ */
+#define PAIRING_STACK_RUN 65536 /* pairing_run */
+#define PAIRING_STACK_CALL 8192 /* every other call */
 
 /* The mate of a free vertex. */
 #define PAIRING_FREE 65535

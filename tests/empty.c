@@ -1,0 +1,94 @@
+/*
+ * Empty slices: a length of 0 with a null pointer, or one to where nothing may be read or written. Each call is made so with each of its slices,
+ * and with all at once; it must be turned back with the number that fits, every figure 0, and leave what else is lent as it was.
+ */
+#include <inttypes.h>
+#include <stdio.h>
+#include <stdlib.h>
+#include <string.h>
+
+#include "../bindings/c/pairing.h"
+
+#define UNWRITTEN 77
+
+static uint8_t rack[PAIRING_RACK_BYTES], space[PAIRING_RECORD_SPACE];
+static uint8_t rack_before[PAIRING_RACK_BYTES], space_before[PAIRING_RECORD_SPACE];
+static unsigned calls;
+
+static void same(const char *what, uint64_t got, uint64_t wanted)
+{
+    if (got == wanted)
+        return;
+    printf("empty: %s: %" PRIu64 ", wanted %" PRIu64 "\n", what, got, wanted);
+    exit(1);
+}
+
+/* The number and the figures of a call, and that the bytes stay. */
+static void refused(uint32_t number, uint32_t wanted, uint64_t figures)
+{
+    calls++;
+    same("number", number, wanted);
+    same("figures", figures, 0);
+    same("rack", memcmp(rack, rack_before, sizeof rack) == 0, 1);
+    same("space", memcmp(space, space_before, sizeof space) == 0, 1);
+}
+
+static void change(uint8_t *bytes, size_t len, const uint32_t *words, size_t count, uint32_t wanted)
+{
+    uint32_t draws = UNWRITTEN, falls = UNWRITTEN, pairs = UNWRITTEN;
+    uint32_t number = pairing_change(bytes, len, PAIRING_DROP, 0, 1, words, count, &draws, &falls, &pairs);
+
+    refused(number, wanted, (uint64_t)draws + falls + pairs);
+}
+
+static void run(uint8_t *bytes, size_t len, const uint8_t *text, size_t text_len, uint8_t *room, size_t room_len, uint32_t wanted)
+{
+    size_t line = UNWRITTEN, length = UNWRITTEN;
+    uint32_t number = pairing_run(bytes, len, text, text_len, room, room_len, &line, &length);
+
+    /* An empty text has its first bad line at 1. */
+    refused(number, wanted, length + (number == PAIRING_BAD_LINE ? line - 1 : line));
+}
+
+static void with(void *any)
+{
+    static const uint8_t text[] = "(rack (boards 4))\n";
+    static const uint32_t words[] = {0, 0};
+    uint32_t number, yes = UNWRITTEN, mate = UNWRITTEN, linked = UNWRITTEN;
+    int32_t level = UNWRITTEN;
+
+    refused(pairing_make(any, 0, 4), PAIRING_BAD_LENGTH, 0);
+    number = pairing_audit(any, 0, &yes);
+    refused(number, PAIRING_BAD_LENGTH, yes);
+    number = pairing_level(any, 0, 0, &level);
+    refused(number, PAIRING_BAD_LENGTH, (uint64_t)level);
+    number = pairing_mate(any, 0, 0, &mate);
+    refused(number, PAIRING_BAD_LENGTH, mate);
+    number = pairing_linked(any, 0, 0, 1, &linked);
+    refused(number, PAIRING_BAD_LENGTH, linked);
+    change(any, 0, words, 2, PAIRING_BAD_LENGTH);
+    change(rack, sizeof rack, any, 0, PAIRING_TOO_FEW_WORDS);
+    change(any, 0, any, 0, PAIRING_BAD_LENGTH);
+    run(any, 0, text, sizeof text - 1, space, sizeof space, PAIRING_BAD_LENGTH);
+    run(rack, sizeof rack, any, 0, space, sizeof space, PAIRING_BAD_LINE);
+    run(rack, sizeof rack, text, sizeof text - 1, any, 0, PAIRING_SHORT_SPACE);
+    run(any, 0, any, 0, any, 0, PAIRING_BAD_LENGTH);
+}
+
+int main(void)
+{
+    const uintptr_t pointers[] = {0, 1, UINTPTR_MAX / 2, UINTPTR_MAX};
+    const uint32_t words[] = {0, 0};
+    uint32_t draws, falls, pairs;
+    size_t k;
+
+    same("make", pairing_make(rack, sizeof rack, 4), PAIRING_OK);
+    same("change", pairing_change(rack, sizeof rack, PAIRING_ADD, 0, 1, words, 2, &draws, &falls, &pairs), PAIRING_OK);
+    memset(space, UNWRITTEN, sizeof space);
+    memcpy(rack_before, rack, sizeof rack);
+    memcpy(space_before, space, sizeof space);
+    for (k = 0; k < sizeof pointers / sizeof *pointers; k++)
+        with((void *)pointers[k]);
+    printf("empty slices with any pointer: %u calls turned back as stated\n", calls);
+    return 0;
+}

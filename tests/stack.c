@@ -1,0 +1,303 @@
+/*
+ * How much stack each call takes. The calls are made on a stack of their own that was painted before, many times and on demanding inputs; the
+ * deepest byte that has lost its paint tells how far down any of them came. What the call of an empty function comes to is taken off. Prints
+ * a table; more than the header says is a failure.
+ *
+ * With LD_BIND_NOT=1 the loader looks for a function of the C library whenever it is called, and not the first time alone, so that what the
+ * loader needs is counted too.
+ */
+#define _XOPEN_SOURCE 600
+
+#include <inttypes.h>
+#include <stdio.h>
+#include <stdlib.h>
+#include <string.h>
+#include <ucontext.h>
+
+#include "../bindings/c/pairing.h"
+
+#define MOST PAIRING_MOST_VERTICES
+#define ALL_EDGES (MOST * (MOST - 1) / 2)
+#define PAINT 0xa5
+
+static unsigned char stack[4 * PAIRING_STACK_RUN];
+static ucontext_t here, there;
+
+/* The rack of 256 vertices with all edges. */
+static uint8_t densest[PAIRING_RACK_BYTES];
+
+/* What the calls are lent and told, and what they answer: none of it stands on the painted stack. */
+static uint8_t rack[PAIRING_RACK_BYTES], space[PAIRING_RECORD_SPACE];
+static char text[PAIRING_TEXT_LIMIT + 1];
+static uint32_t words[MOST / 2];
+static size_t len, text_len, space_len, count;
+static uint32_t n, code, a, b;
+static uint32_t number, yes, mate, linked, draws, falls, pairs;
+static int32_t level;
+static size_t line, length;
+
+static void call_nothing(void)
+{
+}
+
+static void call_make(void)
+{
+    number = pairing_make(rack, len, n);
+}
+
+static void call_audit(void)
+{
+    number = pairing_audit(rack, len, &yes);
+}
+
+static void call_level(void)
+{
+    number = pairing_level(rack, len, a, &level);
+}
+
+static void call_mate(void)
+{
+    number = pairing_mate(rack, len, a, &mate);
+}
+
+static void call_linked(void)
+{
+    number = pairing_linked(rack, len, a, b, &linked);
+}
+
+static void call_change(void)
+{
+    number = pairing_change(rack, len, code, a, b, words, count, &draws, &falls, &pairs);
+}
+
+static void call_run(void)
+{
+    number = pairing_run(rack, len, (const uint8_t *)text, text_len, space, space_len, &line, &length);
+}
+
+/* Makes a call on the painted stack. */
+static void on_stack(void (*call)(void))
+{
+    getcontext(&there);
+    there.uc_stack.ss_sp = stack;
+    there.uc_stack.ss_size = sizeof stack;
+    there.uc_link = &here;
+    makecontext(&there, call, 0);
+    swapcontext(&here, &there);
+}
+
+/* A call that must come to this number. */
+static void expect(void (*call)(void), uint32_t wanted)
+{
+    on_stack(call);
+    if (number != wanted) {
+        printf("stack: a call gave %" PRIu32 ", wanted %" PRIu32 "\n", number, wanted);
+        exit(1);
+    }
+}
+
+/* A repeatable source of numbers. */
+static uint32_t below(uint32_t k)
+{
+    static uint64_t state = 1;
+
+    state = state * 6364136223846793005u + 1442695040888963407u;
+    return (uint32_t)(state >> 33) % k;
+}
+
+static void nothing(void)
+{
+    on_stack(call_nothing);
+}
+
+static void make(void)
+{
+    n = 0;
+    expect(call_make, PAIRING_BAD_VERTEX_COUNT);
+    n = MOST;
+    expect(call_make, PAIRING_OK);
+    len--;
+    expect(call_make, PAIRING_BAD_LENGTH);
+}
+
+/* A change with random words. */
+static void expect_change(uint32_t its_code, uint32_t v, uint32_t w, uint32_t wanted)
+{
+    size_t at;
+
+    code = its_code;
+    a = v;
+    b = w;
+    for (at = 0; at < count; at++)
+        words[at] = below(UINT32_MAX);
+    expect(call_change, wanted);
+}
+
+/* All edges among 256 vertices come in a scattered order; then the pair of each vertex goes, round after round, so that others fall and rise;
+ * then one change for each number. */
+static void change(void)
+{
+    static uint32_t lower[ALL_EDGES], upper[ALL_EDGES];
+    uint32_t v, w, k, edge = 0;
+
+    for (v = 0; v < MOST; v++)
+        for (w = v + 1; w < MOST; w++, edge++) {
+            lower[edge] = v;
+            upper[edge] = w;
+        }
+    pairing_make(rack, len, MOST);
+    for (k = 0; k < ALL_EDGES; k++) {
+        /* 7,919 has no divisor in common with the number of edges, so that each edge comes once. */
+        edge = k * 7919 % ALL_EDGES;
+        expect_change(PAIRING_ADD, lower[edge], upper[edge], PAIRING_OK);
+    }
+    memcpy(densest, rack, sizeof rack);
+    for (k = 0; k < 8 * MOST; k++) {
+        v = k % MOST;
+        if (pairing_mate(rack, len, v, &w) == PAIRING_OK && w != PAIRING_FREE)
+            expect_change(PAIRING_DROP, v, w, PAIRING_OK);
+    }
+    memcpy(rack, densest, sizeof rack);
+    expect_change(0, 0, 1, PAIRING_BAD_CODE);
+    expect_change(PAIRING_ADD, 0, MOST, PAIRING_NO_VERTEX);
+    expect_change(PAIRING_ADD, 0, 0, PAIRING_SAME_VERTEX);
+    expect_change(PAIRING_ADD, 0, 1, PAIRING_EDGE_PRESENT);
+    expect_change(PAIRING_DROP, 0, 1, PAIRING_OK);
+    expect_change(PAIRING_DROP, 0, 1, PAIRING_EDGE_ABSENT);
+    count--;
+    expect_change(PAIRING_ADD, 0, 1, PAIRING_TOO_FEW_WORDS);
+    rack[4] = 1;
+    expect_change(PAIRING_ADD, 0, 1, PAIRING_UNSOUND);
+    len--;
+    expect_change(PAIRING_ADD, 0, 1, PAIRING_BAD_LENGTH);
+}
+
+static void audit(void)
+{
+    expect(call_audit, PAIRING_OK);
+    rack[sizeof rack - 1] ^= 1;
+    expect(call_audit, PAIRING_OK);
+    len--;
+    expect(call_audit, PAIRING_BAD_LENGTH);
+}
+
+/* A query on each vertex of the densest rack, and one for each number. */
+static void query(void (*call)(void))
+{
+    for (a = 0; a < MOST; a++) {
+        b = (a + 1) % MOST;
+        expect(call, PAIRING_OK);
+    }
+    a = MOST;
+    expect(call, PAIRING_NO_VERTEX);
+    rack[4] = 1;
+    expect(call, PAIRING_UNSOUND);
+    len--;
+    expect(call, PAIRING_BAD_LENGTH);
+}
+
+static void ask_level(void)
+{
+    query(call_level);
+}
+
+static void ask_mate(void)
+{
+    query(call_mate);
+}
+
+static void ask_linked(void)
+{
+    query(call_linked);
+}
+
+/* A trace text on so many vertices, as long as can be, in which edges among a few of them come and go. */
+static void write_trace(uint32_t vertices, uint32_t few)
+{
+    static uint8_t present[MOST][MOST];
+    char next[2 * MOST];
+    uint32_t v, w, k;
+    int size;
+
+    memset(present, 0, sizeof present);
+    text_len = (size_t)sprintf(text, "(rack (boards %" PRIu32 "))\n", vertices);
+    for (;;) {
+        v = below(few - 1);
+        w = v + 1 + below(few - 1 - v);
+        size = sprintf(next, "(%s (%" PRIu32 " %" PRIu32 ") (draws", present[v][w] ? "drop" : "add", v, w);
+        for (k = 0; k < vertices / 2; k++)
+            size += sprintf(next + size, " %" PRIu32, below(10));
+        size += sprintf(next + size, "))\n");
+        if (text_len + (size_t)size > PAIRING_TEXT_LIMIT)
+            return;
+        memcpy(text + text_len, next, (size_t)size);
+        text_len += (size_t)size;
+        present[v][w] ^= 1;
+    }
+}
+
+static void run(void)
+{
+    uint32_t few;
+
+    for (few = 4; few <= 40; few++) {
+        write_trace(few, few);
+        expect(call_run, PAIRING_OK);
+        write_trace(MOST, few);
+        expect(call_run, PAIRING_OK);
+    }
+    text_len--;
+    expect(call_run, PAIRING_BAD_LINE);
+    text_len = (size_t)sprintf(text, "(rack (boards 0))\n");
+    expect(call_run, PAIRING_BAD_VERTEX_COUNT);
+    space_len--;
+    expect(call_run, PAIRING_SHORT_SPACE);
+    text_len = sizeof text;
+    expect(call_run, PAIRING_LONG_TEXT);
+    len--;
+    expect(call_run, PAIRING_BAD_LENGTH);
+}
+
+/* The bytes from the top of the stack to the deepest that some calls touch. */
+static size_t depth(void (*calls)(void))
+{
+    size_t at = 0;
+
+    memcpy(rack, densest, sizeof rack);
+    len = sizeof rack;
+    space_len = sizeof space;
+    count = MOST / 2;
+    memset(stack, PAINT, sizeof stack);
+    calls();
+    while (at < sizeof stack && stack[at] == PAINT)
+        at++;
+    return sizeof stack - at;
+}
+
+int main(void)
+{
+    /* The changes come first: they make the densest rack. */
+    static const struct {
+        const char *name;
+        void (*calls)(void);
+        size_t limit;
+    } parts[] = {
+        {"change", change, PAIRING_STACK_CALL},
+        {"make", make, PAIRING_STACK_CALL},
+        {"audit", audit, PAIRING_STACK_CALL},
+        {"level", ask_level, PAIRING_STACK_CALL},
+        {"mate", ask_mate, PAIRING_STACK_CALL},
+        {"linked", ask_linked, PAIRING_STACK_CALL},
+        {"run", run, PAIRING_STACK_RUN},
+    };
+    size_t empty = depth(nothing), used, k;
+    int within = 1;
+
+    for (k = 0; k < sizeof parts / sizeof *parts; k++) {
+        used = depth(parts[k].calls) - empty;
+        within = within && used <= parts[k].limit;
+        printf("stack of pairing_%-7s %6zu bytes, at most %zu\n", parts[k].name, used, parts[k].limit);
+    }
+    printf("the stack: %s what the header says\n", within ? "within" : "MORE than");
+    return within ? 0 : 1;
+}
