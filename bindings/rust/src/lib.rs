@@ -80,6 +80,13 @@ pub const TEXT_LIMIT: usize = 16_384;
 /// The least bytes of a record space: a record of any trace text fits.
 pub const RECORD_SPACE: usize = 65_536;
 
+/// The stack in bytes that [`run`] needs beside its caller's own; measured with a
+/// margin, and not proved.
+pub const STACK_RUN: usize = 65_536;
+
+/// The stack in bytes that every other call needs, likewise.
+pub const STACK_CALL: usize = 8_192;
+
 /// The mate of a free vertex.
 pub const FREE: u32 = 65_535;
 

@@ -34,8 +34,10 @@ fn numbers() {
 }
 
 #[test]
-fn lengths_and_codes() {
-    for (name, value) in named![RACK_BYTES MOST_VERTICES TEXT_LIMIT RECORD_SPACE FREE ADD DROP] {
+fn other_constants() {
+    for (name, value) in named![RACK_BYTES MOST_VERTICES TEXT_LIMIT RECORD_SPACE STACK_RUN
+        STACK_CALL FREE ADD DROP]
+    {
         assert_eq!(value, defined(name), "{name}");
     }
 }
