@@ -36,7 +36,7 @@ fn counts_of(rack: &[u8], tally: &[u16], v: usize) -> bool
     true
 }
 
-// Whether the counts of every vertex are.
+// Whether the counts of every vertex are what the tally says, and below their thresholds.
 fn counts(rack: &[u8], tally: &[u16], n: usize) -> bool
     requires { ⌜ Sized (now rack) ⌝ }
     requires { ⌜ n ≤ most ⌝ }
@@ -92,7 +92,7 @@ fn mate_of(rack: &[u8], v: usize, n: usize) -> bool
     mated(rack, v, m as usize, n)
 }
 
-// Whether the mate of every vertex is.
+// Whether the mate of every vertex is right, and each has none exactly if its rank is 0.
 fn mates(rack: &[u8], n: usize) -> bool
     requires { ⌜ Sized (now rack) ⌝ }
     requires { ⌜ n ≡ sizeAt (now rack) ⌝ }

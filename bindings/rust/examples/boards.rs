@@ -1,0 +1,45 @@
+//! Runs the trace on standard input and prints what the rack then holds, a line
+//! for each board: its level, its mate, the boards to which it owns a link, and
+//! its counts at levels 0 to 3.
+//!
+//! Owners and counts have no query, so these two are read from the bytes, at the
+//! offsets of document 01.
+
+use std::io::{self, Read};
+
+use pairing::Number;
+
+const COUNTS: usize = 776;
+const ROWS: usize = 1_800;
+const LEVELS: usize = 4;
+const ROW_BYTES: usize = 32;
+
+/// The boards below n to which v owns a link.
+fn owned(rack: &[u8], v: usize, n: usize) -> Vec<String> {
+    let row = &rack[ROWS + ROW_BYTES * v..][..ROW_BYTES];
+    let owns = |w: &usize| row[w / 8] >> (w % 8) & 1 == 1;
+    (0..n).filter(owns).map(|w| w.to_string()).collect()
+}
+
+fn print_board(rack: &[u8], v: usize, n: usize) -> Result<(), Number> {
+    let level = pairing::level(rack, v as u32).result()?;
+    let mate = pairing::mate(rack, v as u32).result()?;
+    let mate = mate.map_or("-".to_string(), |w| w.to_string());
+    let counts = &rack[COUNTS + LEVELS * v..][..LEVELS];
+    let counts: Vec<String> = counts.iter().map(u8::to_string).collect();
+    let owns = owned(rack, v, n).join(" ");
+    let line = format!("{v:5}  {level:5}  {mate:>4}  {:11}  {owns}", counts.join(" "));
+    println!("{}", line.trim_end());
+    Ok(())
+}
+
+fn main() -> Result<(), Number> {
+    let mut text = Vec::new();
+    io::stdin().read_to_end(&mut text).expect("standard input");
+    let mut rack = vec![0; pairing::RACK_BYTES];
+    let mut space = vec![0; pairing::RECORD_SPACE];
+    pairing::run(&mut rack, &text, &mut space).result()?;
+    let n = usize::from(rack[0]) + 256 * usize::from(rack[1]);
+    println!("board  level  mate  counts 0-3   owns links to");
+    (0..n).try_for_each(|v| print_board(&rack, v, n))
+}
