@@ -181,34 +181,21 @@ static void audit(void)
     expect(call_audit, PAIRING_BAD_LENGTH);
 }
 
-/* A query on each vertex of the densest rack, and one for each number. */
-static void query(void (*call)(void))
+/* What the queries have in common: one on each vertex of the densest rack, and one for each number. */
+static void (*asked)(void);
+
+static void query(void)
 {
     for (a = 0; a < MOST; a++) {
         b = (a + 1) % MOST;
-        expect(call, PAIRING_OK);
+        expect(asked, PAIRING_OK);
     }
     a = MOST;
-    expect(call, PAIRING_NO_VERTEX);
+    expect(asked, PAIRING_NO_VERTEX);
     rack[4] = 1;
-    expect(call, PAIRING_UNSOUND);
+    expect(asked, PAIRING_UNSOUND);
     len--;
-    expect(call, PAIRING_BAD_LENGTH);
-}
-
-static void ask_level(void)
-{
-    query(call_level);
-}
-
-static void ask_mate(void)
-{
-    query(call_mate);
-}
-
-static void ask_linked(void)
-{
-    query(call_linked);
+    expect(asked, PAIRING_BAD_LENGTH);
 }
 
 /* A trace text on so many vertices, as long as can be, in which edges among a few of them come and go. */
@@ -280,20 +267,22 @@ int main(void)
     static const struct {
         const char *name;
         void (*calls)(void);
+        void (*asked)(void);
         size_t limit;
     } parts[] = {
-        {"change", change, PAIRING_STACK_CALL},
-        {"make", make, PAIRING_STACK_CALL},
-        {"audit", audit, PAIRING_STACK_CALL},
-        {"level", ask_level, PAIRING_STACK_CALL},
-        {"mate", ask_mate, PAIRING_STACK_CALL},
-        {"linked", ask_linked, PAIRING_STACK_CALL},
-        {"run", run, PAIRING_STACK_RUN},
+        {"change", change, NULL, PAIRING_STACK_CALL},
+        {"make", make, NULL, PAIRING_STACK_CALL},
+        {"audit", audit, NULL, PAIRING_STACK_CALL},
+        {"level", query, call_level, PAIRING_STACK_CALL},
+        {"mate", query, call_mate, PAIRING_STACK_CALL},
+        {"linked", query, call_linked, PAIRING_STACK_CALL},
+        {"run", run, NULL, PAIRING_STACK_RUN},
     };
     size_t empty = depth(nothing), used, k;
     int within = 1;
 
     for (k = 0; k < sizeof parts / sizeof *parts; k++) {
+        asked = parts[k].asked;
         used = depth(parts[k].calls) - empty;
         within = within && used <= parts[k].limit;
         printf("stack of pairing_%-7s %6zu bytes, at most %zu\n", parts[k].name, used, parts[k].limit);
