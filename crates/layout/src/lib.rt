@@ -16,6 +16,9 @@ ghost use Rattle.layout.specs.Rows.{degreeAt, NthOwned, NextOwned};
 
 pub mod unused;
 
+// The bytes of a rack.
+pub const RACK_BYTES: usize = 9992;
+
 // The most vertices that a rack has.
 pub const MOST: usize = 256;
 
@@ -51,7 +54,7 @@ fn join(lo: u8, hi: u8) -> u16
 pub fn sized(rack: &[u8]) -> bool
     ensures { λ r. ⌜ r ≡ sizedOf (now (rack .entry)) ⌝ }
 {
-    rack.len() == 9992
+    rack.len() == RACK_BYTES
 }
 
 // A row of bits for vertices, with none in it.

@@ -6,6 +6,7 @@ ghost use lib.ListN.{getD};
 ghost use Rattle.model.specs.Bytes.{most as mostOf, noMate, rankAt, mateAt, phiAt, ownsAt};
 ghost use Rattle.model.proofs.Facts.{Says, Unused};
 ghost use Rattle.layout.specs.Setters.{Sized};
+use crate::RACK_BYTES;
 
 // Whether bytes 4 to 7 are zero.
 pub fn spare_zero(rack: &[u8]) -> bool
@@ -52,7 +53,7 @@ fn rows_unused(rack: &[u8], n: usize) -> bool
     ensures { λ r. ⌜ Says r ((v : ℕ) → v < mostOf → n ≤ v → (w : ℕ) → w < mostOf → T (ownsAt (now (rack .entry)) v w) → ⊥) ⌝ }
 {
     let from = 1800 + 32 * n;
-    bitset::is_zero(&rack[from..9992])
+    bitset::is_zero(&rack[from..RACK_BYTES])
 }
 
 // Whether the entries from vertex n on are those of vertices that are none.

@@ -17,6 +17,12 @@ ghost use Rattle.record.specs.Line.{answerRoom, pairRoom};
 ghost use Rattle.changes.specs.Sounded.{Sounded, brought};
 ghost use Rattle.run.specs.Runs.{endingRoom, endingText, pairPart, Ready, Played, Recordable, Written, Took, told, Shown};
 
+// The most bytes of a trace text.
+pub const TEXT_LIMIT: usize = 16384;
+
+// The fewest bytes of a record space.
+pub const RECORD_SPACE: usize = 65536;
+
 // "The answer is 0 and the record's length", or the number of a run that was turned back, with its line if that is 4.
 pub struct RunAnswer {
     pub number: u32,
@@ -153,10 +159,10 @@ pub fn run(rack: &mut [u8], text: &[u8], space: &mut [u8]) -> RunAnswer
     if !layout::sized(rack) {
         return turned_back(1, 0);
     }
-    if 16384 < text.len() {
+    if TEXT_LIMIT < text.len() {
         return turned_back(2, 0);
     }
-    if space.len() < 65536 {
+    if space.len() < RECORD_SPACE {
         return turned_back(3, 0);
     }
     let mut heads = trace::heads_space();
