@@ -1,0 +1,2 @@
+-- What a reading of the standard input may answer.
+pub mod Input
