@@ -48,14 +48,19 @@ returns c = tt
 
 -- the text has kept its length after a read
 same : (c : tie.After-known-told Inv-loop μ-loop)
-    → length (back (c .before .before .before .before .before .before .before .before .loop .done) (c .before .before .before .before .before .before .before .before .loop .text) (c .before .before .before .before .before .read-some .last .0)) ≡ length (c .before .before .before .before .before .before .before .before .before .before .args .text .now)
+    → length (back (c .before .before .before .before .before .before .before .before .loop .done)
+    (c .before .before .before .before .before .before .before .before .loop .text)
+    (c .before .before .before .before .before .read-some .last .0))
+    ≡ length (c .before .before .before .before .before .before .before .before .before .before .args .text .now)
 same c =
     let l = c .before .before .before .before .before .before .before .before .loop in
     let r = c .before .before .before .before .before .read-some in
     length-back (l .done) (l .text) (r .last .0) (l .inv .1) (r .kept .0) ∙ l .inv .0
 
 -- what a read brought fits the rest of the text
-fits : (c : tie.After-known-told Inv-loop μ-loop) → c .before .before .before .before .before .before .before .before .loop .done + c .before .got .given .0 .0 ≤ length (c .before .before .before .before .before .before .before .before .before .before .args .text .now)
+fits : (c : tie.After-known-told Inv-loop μ-loop)
+    → c .before .before .before .before .before .before .before .before .loop .done + c .before .got .given .0 .0
+    ≤ length (c .before .before .before .before .before .before .before .before .before .before .args .text .now)
 fits c =
     let l = c .before .before .before .before .before .before .before .before .loop in
     let g = subst (λ r. Within r (length (part (l .done) (l .text)))) (c .before .got .given .1) (c .before .before .before .before .before .read-some .ensures) in
