@@ -6,7 +6,7 @@ use mathlib.Core.List.{List, [], _∷_, _++_, append-assoc, append-nil}
 use native.Mathlib.Omega.{arith}
 use native.Mathlib.Nat.{add-zero, zero-add}
 use lib.ListN.{length, getD, take, drop, set, length-append, length-take, length-drop, take-append-drop, drop-of-length-le}
-use lib.Seq.{drop-cons, drop-drop, set-at, take-at, drop-at, take-all}
+use lib.Seq.{drop-cons, drop-drop, set-at, take-at, drop-at, take-all, length-take-le}
 use Rattle.model.specs.Text.{over}
 use Rattle.text.specs.Writing.{Put}
 
@@ -75,17 +75,22 @@ part-is n w = take-all (length w - n) (drop n w) (omega (arith, length-drop n w)
 pub length-part : (n : ℕ) (w : List ℕ) → length (part n w) ≡ length w - n
 length-part n w = ap length (part-is n w) ∙ length-drop n w
 
--- the whole keeps its length
-pub length-back : (n : ℕ) (w last : List ℕ) → n ≤ length w → length last ≡ length (part n w) → length (back n w last) ≡ length w
-length-back n w last h e = simp (length-append, length-take, length-drop) (omega (arith, e, length-part n w, h))
+-- nothing of the whole stands after the part
+back-is : (n : ℕ) (w last : List ℕ) → back n w last ≡ take n w ++ last
+back-is n w last =
+    let none : length (drop n w) ≤ length w - n = omega (arith, length-drop n w) in
+    ap (λ (l : List ℕ). take n w ++ (last ++ l)) (drop-of-length-le (drop n w) none) ∙ ap (λ (l : List ℕ). take n w ++ l) (append-nil last)
+
+-- what stands before n in the whole, and from n on
+pub take-back : (n : ℕ) (w last : List ℕ) → n ≤ length w → take n (back n w last) ≡ take n w
+take-back n w last h = ap (take n) (back-is n w last) ∙ take-at (take n w) last n (length-take-le n w h)
+
+pub drop-back : (n : ℕ) (w last : List ℕ) → n ≤ length w → drop n (back n w last) ≡ last
+drop-back n w last h = ap (drop n) (back-is n w last) ∙ drop-at (take n w) last n (length-take-le n w h)
 
 -- what was written at the start of the part stands at n of the whole
 pub put-at : {p last : List ℕ} {k : ℕ} (n : ℕ) (w : List ℕ) → Put p (part n w) last k → back n w last ≡ over n p w
-put-at {p} {last} n w h =
-    let e : length (drop n w) ≤ length w - n = omega (arith, length-drop n w) in
-    ap (λ (l : List ℕ). take n w ++ (last ++ l)) (drop-of-length-le (drop n w) e)
-    ∙ ap (λ (l : List ℕ). take n w ++ l) (append-nil last ∙ h .wrote ∙ ap (over 0 p) (part-is n w))
-    ∙ over-part n p w
+put-at {p} {last} n w h = back-is n w last ∙ ap (λ (l : List ℕ). take n w ++ l) (h .wrote ∙ ap (over 0 p) (part-is n w)) ∙ over-part n p w
 
 -- a second writer is lent the part after what a first one wrote: together they wrote one text after the other
 pub put-then : {p q old w last : List ℕ} {n k : ℕ} → Put p old w n → Put q (part n w) last k → length p ≤ length old → Put (p ++ q) old (back n w last) (n + k)

@@ -1,7 +1,7 @@
 -- Changes kept as numbers: one change more, and which changes are kept. Assumes nothing.
 use mathlib.Core.Path.{_≡_, refl, sym, ap, _∙_}
 use mathlib.Core.List.{List, [], _∷_, _++_, append-assoc}
-use Prim.Native.Nat.{ℕ, _+_, _-_, _*_, _≤_}
+use Prim.Native.Nat.{ℕ, _+_, _*_, _≤_}
 use native.Mathlib.Omega.{arith}
 use native.Mathlib.Nat.{add-zero, mul-suc, mul-zero}
 use lib.ListN.{length, getD, take, drop, set, length-append, length-drop, take-append-drop}
@@ -10,7 +10,7 @@ use Rattle.model.specs.Text.{over, texts}
 use Rattle.model.specs.Change.{Change}
 use Rattle.model.specs.Trace.{wordText, changeLine, LineChange}
 use Rattle.text.specs.Reading.{Found}
-use Rattle.text.proofs.Over.{back, over-none, over-set}
+use Rattle.text.proofs.Over.{over-none, over-set}
 use Rattle.text.proofs.Decimals.{length-pos}
 use Rattle.text.proofs.Texts.{texts-snoc, texts-least}
 use Rattle.trace.specs.Check.{headOf, wordsOf, Kept}
@@ -29,28 +29,27 @@ pub kept-none : (heads words : List ℕ) → Kept heads words []
 unfolding texts
 kept-none heads words = record { heads-rest = heads; heads-are = refl; words-rest = words; words-are = refl }
 
--- one change more, whose head is stored and whose words came back in the part lent on
-pub kept-more : (heads words last : List ℕ) (cs : List Change) (c : Change) (at w : ℕ) → Kept heads words cs → at ≡ 4 * length cs → w ≡ total cs
-    → take (length (c .words)) last ≡ c .words → Kept (over at (headOf c) heads) (back w words last) (cs ++ (c ∷ []))
+-- one change more, whose head is stored and whose words stand after those before
+pub kept-more : (heads words after : List ℕ) (cs : List Change) (c : Change) (at w : ℕ) → Kept heads words cs → at ≡ 4 * length cs → w ≡ total cs
+    → take w after ≡ take w words → take (length (c .words)) (drop w after) ≡ c .words → Kept (over at (headOf c) heads) after (cs ++ (c ∷ []))
 unfolding over
-kept-more heads words last cs c at w k e f g =
+kept-more heads words after cs c at w k e f before own =
     let h = texts headOf cs in
     let v = texts wordsOf cs in
-    let x = drop (length words - w) (drop w words) in
-    let y = drop (length (c .words)) last in
+    let y = drop (length (c .words)) (drop w after) in
     record {
       heads-rest = drop (at + 4) heads;
       heads-are =
           ap (λ (l : List ℕ). l ++ (headOf c ++ drop (at + 4) heads)) (ap (take at) (k .heads-are) ∙ take-at h (k .heads-rest) at (heads-length cs ∙ sym e))
           ∙ sym (append-assoc h (headOf c) (drop (at + 4) heads))
           ∙ ap (λ (l : List ℕ). l ++ drop (at + 4) heads) (sym (texts-snoc headOf cs c));
-      words-rest = y ++ x;
+      words-rest = y;
       words-are =
-          ap (λ (l : List ℕ). l ++ (last ++ x)) (ap (take w) (k .words-are) ∙ take-at v (k .words-rest) w (sym f))
-          ∙ ap (λ (l : List ℕ). v ++ (l ++ x)) (sym (take-append-drop (length (c .words)) last) ∙ ap (λ (l : List ℕ). l ++ y) g)
-          ∙ ap (λ (l : List ℕ). v ++ l) (append-assoc (c .words) y x)
-          ∙ sym (append-assoc v (c .words) (y ++ x))
-          ∙ ap (λ (l : List ℕ). l ++ (y ++ x)) (sym (texts-snoc wordsOf cs c));
+          sym (take-append-drop w after)
+          ∙ ap (λ (l : List ℕ). l ++ drop w after) (before ∙ ap (take w) (k .words-are) ∙ take-at v (k .words-rest) w (sym f))
+          ∙ ap (λ (l : List ℕ). v ++ l) (sym (take-append-drop (length (c .words)) (drop w after)) ∙ ap (λ (l : List ℕ). l ++ y) own)
+          ∙ sym (append-assoc v (c .words) y)
+          ∙ ap (λ (l : List ℕ). l ++ y) (sym (texts-snoc wordsOf cs c));
     }
 
 pub total-more : (cs : List Change) (c : Change) → total (cs ++ (c ∷ [])) ≡ total cs + length (c .words)
