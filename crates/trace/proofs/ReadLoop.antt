@@ -105,9 +105,11 @@ module _ (text heads₀ words₀ : List ℕ) where
   unfolding traceText
   by-bad s zero g over =
       let cs = g .changes in
+      let lines = texts changeLine cs in
       let none : drop (s .at) text ≡ [] = drop-of-length-le text (over refl) in
-      let all : texts changeLine cs ++ drop (s .at) text ≡ texts changeLine cs = ap (λ (u : List ℕ). texts changeLine cs ++ u) none ∙ append-nil (texts changeLine cs) in
-      (cs, record { n-fits = g .fits; changes-fit = g .fit; printed = g .stands ∙ ap (λ (u : List ℕ). rackLine (s .got .n) ++ u) all }, g .number, g .kept)
+      let all : lines ++ drop (s .at) text ≡ lines = ap (λ (u : List ℕ). lines ++ u) none ∙ append-nil lines in
+      let printed = g .stands ∙ ap (λ (u : List ℕ). rackLine (s .got .n) ++ u) all in
+      (cs, record { n-fits = g .fits; changes-fit = g .fit; printed = printed }, g .number, g .kept)
   by-bad s (suc line) b over = b
 
   pub answers : (s : Stand) → Inv s → (s .got .bad ≡ 0 → length text ≤ s .at) → Checks text (s .heads) (s .words) (answerOf (s .got))
@@ -150,7 +152,8 @@ module _ (text heads₀ words₀ : List ℕ) where
     abbrev then : ChangeRead → List ℕ → Progress → List ℕ → Stand
     then line after got heads = record { at = pastLine (s .at) line; got = got; heads = heads; words = after }
 
-    by-line : (line : ChangeRead) (after : List ℕ) → Next line after → Sofar (withLine line (s .got) .bad) (then line after (withLine line (s .got)) (headsWith line (s .got) (s .heads)))
+    by-line : (line : ChangeRead) (after : List ℕ) → Next line after
+        → Sofar (withLine line (s .got) .bad) (then line after (withLine line (s .got)) (headsWith line (s .got) (s .heads)))
     by-line (Line code a b count next) after (f, same, less) =
         let cs = good .changes in
         let last = drop (s .got .words) after in
@@ -168,15 +171,15 @@ module _ (text heads₀ words₀ : List ℕ) where
           sum = omega (arith, good .sum, total-more cs c, few);
           kept =
               subst (λ (m : ℕ). Kept (over (4 * s .got .changes) (code ∷ (a ∷ (b ∷ (m ∷ [])))) (s .heads)) after (cs ++ (c ∷ []))) few
-              (kept-more (s .heads) (s .words) after cs c (4 * s .got .changes) (s .got .words) (good .kept) (ap (λ (m : ℕ). 4 * m) (good .number)) (good .sum) (f .1)
-              (ap (λ (m : ℕ). take m last) few));
+              (kept-more (s .heads) (s .words) after cs c (4 * s .got .changes) (s .got .words) (good .kept) (ap (λ (m : ℕ). 4 * m) (good .number))
+              (good .sum) (f .1) (ap (λ (m : ℕ). take m last) few));
         }
     by-line NoLine after (f, same, less) =
         let rest : 0 < length (drop (s .at) text) = omega (arith, length-drop (s .at) text, less) in
         let bad = bad-change text (s .got .n) (good .changes) (drop (s .at) text) (good .fits) (good .fit) (good .stands) rest (f .0) in
         known _ (s .got .changes + 2) (λ z. omega (arith, z)) (subst (FirstBad (linesOf text)) (omega (arith, good .number)) bad)
 
-    by-less : (line : ChangeRead) (after : List ℕ) → Next line after → leftAt (withLine line (s .got) .bad) (length text) (pastLine (s .at) line) < suc (length text - s .at)
+    by-less : (line : ChangeRead) (after : List ℕ) → Next line after → left (then line after (withLine line (s .got)) []) < suc (length text - s .at)
     by-less (Line code a b count next) after (f, same, less) = omega (arith, longer (f .0 .1), f .0 .1 .within, less)
     by-less NoLine after f = omega (arith, nothing-left (s .got .changes + 2) (s .at) (λ z. omega (arith, z)))
 
@@ -185,11 +188,12 @@ module _ (text heads₀ words₀ : List ℕ) where
       line-holds heads h same = record {
         heads-long = same ∙ v .heads-long;
         words-long = f .1 ∙ v .words-long;
-        so-far = subst (λ (g : Progress). Sofar (g .bad) (then line after g heads)) (sym e)
+        so-far =
+            subst (λ (g : Progress). Sofar (g .bad) (then line after g heads)) (sym e)
             (subst (λ (hs : List ℕ). Sofar (withLine line (s .got) .bad) (then line after (withLine line (s .got)) hs)) (sym h) (by-line line after f));
       }
 
       pub line-less : (heads : List ℕ) → left (then line after got heads) < left s
       line-less heads =
-          subst (λ (g : Progress). leftAt (g .bad) (length text) (pastLine (s .at) line) < left s) (sym e)
-          (subst (λ (k : ℕ). leftAt (withLine line (s .got) .bad) (length text) (pastLine (s .at) line) < leftAt k (length text) (s .at)) (sym none) (by-less line after f))
+          subst (λ (g : Progress). left (then line after g heads) < left s) (sym e)
+          (subst (λ (k : ℕ). left (then line after (withLine line (s .got)) []) < leftAt k (length text) (s .at)) (sym none) (by-less line after f))

@@ -50,7 +50,7 @@ returns c =
     let l = Line (g .0 .0) (g .0 .1 .0) (g .0 .1 .1 .0) (g .0 .1 .1 .1 .0) (g .0 .1 .1 .1 .1 .0) in (
       same _ (withLine l (a .got)) refl (omega arith) (omega arith) refl ∙ ap (λ (m : ChangeRead). withLine m (a .got)) (sym (g .1)),
       _∙_ {b = headsWith l (a .got) (a .heads .now)} (c .before .before .before .before .put-head .ensures)
-      (ap (λ (m : ChangeRead). headsWith m (a .got) (a .heads .now)) (sym (g .1))),
+          (ap (λ (m : ChangeRead). headsWith m (a .got) (a .heads .now)) (sym (g .1))),
     )
 
 returns-2 : tie.Need-returns-2

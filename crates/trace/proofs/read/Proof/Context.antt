@@ -86,7 +86,10 @@ pub record Passed : Type 0 where
   pub words-room : Room u32 (length (words .now))
 
 abbrev pub stays : Stays (read.ended .signature .params) (read.ended .kept)
-stays = (stay-none-slice (0 ∷ []) tt (plain (λ _. u8)) yes, (stay-slice (1 ∷ []) tt (plain (λ _. u32)), (stay-slice (2 ∷ []) tt (plain (λ _. u32)), tt)))
+stays = (
+  stay-none-slice (0 ∷ []) tt (plain (λ _. u8)) yes,
+  (stay-slice (1 ∷ []) tt (plain (λ _. u32)), (stay-slice (2 ∷ []) tt (plain (λ _. u32)), tt)),
+)
 
 module _ (p : Passed) where
   abbrev pub κs : Lfts 3
@@ -164,7 +167,8 @@ module _ {M : Type 1} {𝓤 : URA M} (p : Passed) (l : ℕ → ℕ) where
       cell 5 (G′.lowered got) ∷ dies 5 ∷ dies 4 ∷ cell 3 (val (p .words)) ∷ dies 3 ∷ cell 2 (val (p .heads)) ∷ dies 2
       ∷ cell 1 (val (p .text)) ∷ dies 1 ∷ ‵ (froom (ty 0) (l 0) 0) ∷ dies 0 ∷ []
 
-  -- [_4; what the reader owns; [κ]; the heads; [κ₁]; the words; [κ₂]; the text; room for _18; …; room for _6; …; _5; …; _4's end; _3; …; _2; …; _1; …; room for _0; …]
+  -- [_4; what the reader owns; [κ]; the heads; [κ₁]; the words; [κ₂]; the text; room for _18; …; to room for _6; …; _5; …; what frees _4; _3; …; to room
+  -- for _0; …]
   abbrev pub At : State p → List (Item 𝓤)
   At t = Had (t .stand .at) (t .stand .heads) (t .stand .words) (rooms (drop 6 (En l)) (Named (t .stand .got)))
 

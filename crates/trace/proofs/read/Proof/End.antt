@@ -59,4 +59,5 @@ module _ {M : Type 1} (𝓤 : URA M) (H : Heap 𝓤) (A : Atoms 𝓤) (W : Given
     where
       checks : (r : Checked) → r ≡ answerOf (t .stand .got) → Checks (p .text .now) (t .stand .heads) (t .stand .words) r
       checks r e =
-          subst (Checks (p .text .now) (t .stand .heads) (t .stand .words)) (sym e) (answers (p .text .now) (p .heads .now) (p .words .now) (t .stand) (t .inv) over)
+          subst (Checks (p .text .now) (t .stand .heads) (t .stand .words)) (sym e)
+          (answers (p .text .now) (p .heads .now) (p .words .now) (t .stand) (t .inv) over)

@@ -1,5 +1,5 @@
--- One turn of the loop of `trace::read`. The reader and the words are lent to `next_line`, for lifetimes that the turn makes and ends, and then the heads to
--- `with_line`. All come back before the turn ends.
+-- One turn of the loop of `trace::read`. The reader and the words are lent to `next_line`, for lifetimes that the turn makes and ends, and then the heads
+-- to `with_line`. All come back before the turn ends.
 --     reads-line   a turn from the test on: `next_line`.        keeps-line   the rest of it: `with_line`.        turns        a whole turn
 -- Assumes `Given`, and that the functions called meet their contracts.
 use mathlib.Core.Path.{_≡_, refl, sym, ap, subst}
@@ -131,14 +131,17 @@ module _ {M : Type 1} (𝓤 : URA M) (H : Heap 𝓤) (A : Atoms 𝓤) (W : Given
     unfolding afterTurn
     keeps-line u is =
         sets ! (addr ! (from ! (fld ! refl (hop ! (look-in ! 39 (sub ! 0 refl (whole !))) (stop !))))) (init ! 10 refl (tt, tt)) $
-        sets ! (agg ! (and-then ! (here ! 10 refl) (and-then ! (load ! (from ! (fld ! refl (stop !))) (look-in ! 39 (sub ! 1 refl (whole !)))) (no-more !)))) (init ! 8 refl (tt, (tt, (record { fits = p .heads-room .0 }, tt)))) $
+        sets ! (agg ! (and-then ! (here ! 10 refl)
+        (and-then ! (load ! (from ! (fld ! refl (stop !))) (look-in ! 39 (sub ! 1 refl (whole !)))) (no-more !))))
+        (init ! 8 refl (tt, (tt, (record { fits = p .heads-room .0 }, tt)))) $
         -- the heads are lent
-        move ! (3 ∷ 4 ∷ []) $ lends-slice u32 (p .κ₁) (p .q₁) (at-last (p .heads) (t .stand .heads)) (val (p .heads) ∷ []) W (named 1) (named 0) tt (λ μ ε.
+        move ! (3 ∷ 4 ∷ []) $
+        lends-slice u32 (p .κ₁) (p .q₁) (at-last (p .heads) (t .stand .heads)) (val (p .heads) ∷ []) W (named 1) (named 0) tt (λ μ ε.
         -- [[μ]; the heads under ε; their way back; _4; what the reader owns; [κ]; the words; [κ₂]; the text; _18; …]
         owned ! G.the-row (Is G.the-row) (LL.makes G.the-type G′.the-plain 𝓤 H A) (t .stand .got) _ (t .typed) $
         owned ! S.the-row (Is S.the-row) (EL.makes S.the-type S′.the-plain 𝓤 H A) c (u ∷ []) is $ move ! (2 ∷ 3 ∷ 0 ∷ 1 ∷ []) $
-        calls-to-last W with-line.ended (with-line.clauses 𝓤 H A at-mem run) (to-keep μ ε (t .stand .heads) c u (t .stand .got)) fm (known .with-line) (shown 𝓤 can)
-        (and-then ! (here ! 8 refl) (and-then ! (here ! 32 refl) (and-then ! (here ! 34 refl) (no-more !))))
+        calls-to-last W with-line.ended (with-line.clauses 𝓤 H A at-mem run) (to-keep μ ε (t .stand .heads) c u (t .stand .got))
+        fm (known .with-line) (shown 𝓤 can) (and-then ! (here ! 8 refl) (and-then ! (here ! 32 refl) (and-then ! (here ! 34 refl) (no-more !))))
         (λ got hs. (got ≡ withLine c (t .stand .got)) × (hs .0 ≡ headsWith c (t .stand .got) (t .stand .heads))) (λ _ _. id⊢ 𝓤 _) (λ w got hs e.
         -- [what was got; [μ]; the last heads; their way back; _4; what the reader owns; [κ]; the words; [κ₂]; the text; _18; …]
         peeks ! G.the-row (Is G.the-row) (shows 𝓤 H A G.the-row) got (w ∷ []) (λ is′. drop ! $
@@ -158,25 +161,31 @@ module _ {M : Type 1} (𝓤 : URA M) (H : Heap 𝓤) (A : Atoms 𝓤) (W : Given
     reads-line =
         sets ! (addr ! (from ! (stop !))) (init ! 16 refl (tt, tt)) $
         sets ! (addr ! (from ! (fld ! refl (hop ! (look-in ! 37 (sub ! 0 refl (whole !))) (stop !))))) (init ! 14 refl (tt, tt)) $
-        sets ! (agg ! (and-then ! (here ! 14 refl) (and-then ! (load ! (from ! (fld ! refl (stop !))) (look-in ! 37 (sub ! 1 refl (whole !)))) (no-more !)))) (init ! 12 refl (tt, (tt, (record { fits = p .words-room .0 }, tt)))) $
+        sets ! (agg ! (and-then ! (here ! 14 refl)
+        (and-then ! (load ! (from ! (fld ! refl (stop !))) (look-in ! 37 (sub ! 1 refl (whole !)))) (no-more !))))
+        (init ! 12 refl (tt, (tt, (record { fits = p .words-room .0 }, tt)))) $
         -- the reader and the words are lent
         lends W (p .κ) (p .q) (l 4) (reader p (t .stand .at)) tt (λ ν δ. move ! (6 ∷ 7 ∷ []) $
         lends-slice u32 (p .κ₂) (p .q₂) (at-last (p .words) (t .stand .words)) (val (p .words) ∷ []) W (named 2) (named 2) tt (λ μ ε.
         -- [[μ]; the words under ε; their way back; [ν ∷ κ]; [κ]; the reference; the reader's way back; the heads; [κ₁]; the text; room for _18; …]
         owned ! usize (Is usize) (uint-makes 𝓤 H A W w64) (t .stand .got .words) _ (refl, few) $ move ! (4 ∷ 5 ∷ 1 ∷ 6 ∷ 2 ∷ 0 ∷ []) $
-        calls-to W next-line.ended (next-line.clauses 𝓤 H A at-mem run) (to-line ν μ δ ε (t .stand .at) (t .stand .words) (t .stand .got .words)) fm (known .next-line) (shown 𝓤 enough)
+        calls-to W next-line.ended (next-line.clauses 𝓤 H A at-mem run) (to-line ν μ δ ε (t .stand .at) (t .stand .words) (t .stand .got .words))
+        fm (known .next-line) (shown 𝓤 enough)
         (and-then ! (here ! 14 refl) (and-then ! (here ! 10 refl)
         (and-then ! (load ! (from ! (fld ! refl (stop !))) (look-in ! 32 (sub ! 2 refl (whole !)))) (no-more !))))
-        (λ c zs. ChangeInto (p .text .now) (t .stand .at) (t .stand .got .words) (t .stand .words) (zs .1 .0) c × Moved (reader p (t .stand .at)) (pastLine (t .stand .at) c) (zs .0))
-        (λ _ _. id⊢ 𝓤 _) (λ u c zs e.
+        (λ c zs. ChangeInto (p .text .now) (t .stand .at) (t .stand .got .words) (t .stand .words) (zs .1 .0) c
+        × Moved (reader p (t .stand .at)) (pastLine (t .stand .at) c) (zs .0)) (λ _ _. id⊢ 𝓤 _) (λ u c zs e.
         -- [the line; [ν ∷ κ]; [κ]; [μ]; the last reader; the last words; the words' way back; the reader's; the heads; [κ₁]; the text; room for _18; …]
         peeks ! S.the-row (Is S.the-row) (shows 𝓤 H A S.the-row) c (u ∷ []) (λ is.
         stores ! (init ! 35 refl (EL.lawful S.the-type S′.the-laws 𝓤 H A W tt .typed c _ is .0)) $ drop ! $
         -- both come back
-        move ! (2 ∷ 4 ∷ 5 ∷ []) $ slice-back u32 (p .κ₂) (p .q₂) (at-last (p .words) (t .stand .words)) (val (p .words) ∷ []) W (named 2) (named 2) μ ε (zs .1 .0) tt (λ same.
-        move ! (2 ∷ 3 ∷ 4 ∷ 5 ∷ []) $ comes-back W (p .κ) (p .q) (l 4) ν δ (zs .0) (reader p (pastLine (t .stand .at) c)) (moved-on (reader p (t .stand .at)) _ (zs .0) (e .1)) tt $
+        move ! (2 ∷ 4 ∷ 5 ∷ []) $
+        slice-back u32 (p .κ₂) (p .q₂) (at-last (p .words) (t .stand .words)) (val (p .words) ∷ []) W (named 2) (named 2) μ ε (zs .1 .0) tt (λ same.
+        move ! (2 ∷ 3 ∷ 4 ∷ 5 ∷ []) $ comes-back W (p .κ) (p .q) (l 4) ν δ (zs .0) (reader p (pastLine (t .stand .at) c))
+        (moved-on (reader p (t .stand .at)) _ (zs .0) (e .1)) tt $
         -- [_4; what the reader owns; [κ]; the words; [κ₂]; the heads; [κ₁]; the text; room for _18; …]
-        move ! (0 ∷ 1 ∷ 2 ∷ 5 ∷ 6 ∷ []) $ forget ! 12 refl $ forget ! 14 refl $ forget ! 16 refl $ keeps-line t none c (zs .1 .0) (e .0, same, within) u is)))))
+        move ! (0 ∷ 1 ∷ 2 ∷ 5 ∷ 6 ∷ []) $ forget ! 12 refl $ forget ! 14 refl $ forget ! 16 refl $
+        keeps-line t none c (zs .1 .0) (e .0, same, within) u is)))))
       where
         enough : t .stand .got .words + 128 ≤ length (t .stand .words)
         enough = can-read (p .text .now) (p .heads .now) (p .words .now) (p .asked) (t .stand) (t .inv) none
@@ -189,18 +198,24 @@ module _ {M : Type 1} (𝓤 : URA M) (H : Heap 𝓤) (A : Atoms 𝓤) (W : Given
   turns t =
       sets ! (bin ! (load ! (from ! (fld ! refl (stop !))) (look-in ! 34 (sub ! 3 refl (whole !)))) (lit ! tt) tt) (init ! 24 refl (tt, tt)) $
       first ! $ branches ! (here ! 24 refl)
-      (λ fits. sets ! (of-opd ! (load ! (from ! (fld ! refl (stop !))) (look-in ! 0 (sub ! 1 refl (whole !))))) (init ! 22 refl (tt, record { fits = at-small fits })) $
-      sets ! (of-opd ! (load ! (from ! (fld ! refl (stop !))) (look-in ! 41 (sub ! 1 refl (whole !))))) (init ! 20 refl (tt, record { fits = p .is-text .0 .1 .0 })) $
-      sets ! (bin ! (here ! 22 refl) (here ! 20 refl) tt) (store ! 24 refl (tt, tt)) $
-      sets ! (of-opd ! (here ! 24 refl)) (init ! 18 refl (tt, tt)) $
+      (λ fits. sets ! (of-opd ! (load ! (from ! (fld ! refl (stop !))) (look-in ! 0 (sub ! 1 refl (whole !)))))
+      (init ! 22 refl (tt, record { fits = at-small fits })) $
+      sets ! (of-opd ! (load ! (from ! (fld ! refl (stop !))) (look-in ! 41 (sub ! 1 refl (whole !)))))
+      (init ! 20 refl (tt, record { fits = p .is-text .0 .1 .0 })) $
+      sets ! (bin ! (here ! 22 refl) (here ! 20 refl) tt) (store ! 24 refl (tt, tt)) $ sets ! (of-opd ! (here ! 24 refl)) (init ! 18 refl (tt, tt)) $
       branches ! (here ! 18 refl)
       (λ within. skips ! $ exec ! C Λ (En l) reading (anyQ (Turned t)) $ forget ! 18 refl $ forget ! 20 refl $ forget ! 22 refl $ forget ! 24 refl $
       reads-line t (eqb→eq (t .stand .got .bad) 0 fits) (ltb→lt (t .stand .at) (length (p .text .now)) within))
-      (λ over. jumps ! $ exec ! C Λ (En l) mirᶜ.t-7 (atRet (En l) (Post 𝓤 H A at-mem run p)) $ forget ! 18 refl $ forget ! 20 refl $ forget ! 22 refl $ forget ! 24 refl $
+      (λ over. jumps ! $ exec ! C Λ (En l) mirᶜ.t-7 (atRet (En l) (Post 𝓤 H A at-mem run p)) $
+      forget ! 18 refl $ forget ! 20 refl $ forget ! 22 refl $ forget ! 24 refl $
       leaves 𝓤 H A W at-mem run p 𝓣 known l t (λ _. nltb→le (t .stand .at) (length (p .text .now)) over)))
       (λ bad. jumps ! $ exec ! C Λ (En l) mirᶜ.t-7 (atRet (En l) (Post 𝓤 H A at-mem run p)) $ forget ! 24 refl $
-      leaves 𝓤 H A W at-mem run p 𝓣 known l t (λ e. absurd (T-not (eqb (t .stand .got .bad) 0) bad (subst (λ (k : ℕ). T (eqb k 0)) (sym e) (eqb-refl 0)))))
+      leaves 𝓤 H A W at-mem run p 𝓣 known l t (λ e. absurd (T-not (eqb (t .stand .got .bad) 0) bad (tested (sym e)))))
     where
+      tested : {k : ℕ} → 0 ≡ k → T (eqb k 0)
+      tested e = subst (λ (k : ℕ). T (eqb k 0)) e (eqb-refl 0)
+
       at-small : T (eqb (t .stand .got .bad) 0) → t .stand .at < 2 ^ 64
       at-small fits =
-          lt-of-le-of-lt (at-within (p .text .now) (p .heads .now) (p .words .now) (p .asked) (t .stand) (t .inv) (eqb→eq (t .stand .got .bad) 0 fits)) (p .is-text .0 .1 .0)
+          let none : t .stand .got .bad ≡ 0 = eqb→eq (t .stand .got .bad) 0 fits in
+          lt-of-le-of-lt (at-within (p .text .now) (p .heads .now) (p .words .now) (p .asked) (t .stand) (t .inv) none) (p .is-text .0 .1 .0)
