@@ -81,6 +81,11 @@ back-is n w last =
     let none : length (drop n w) ≤ length w - n = omega (arith, length-drop n w) in
     ap (λ (l : List ℕ). take n w ++ (last ++ l)) (drop-of-length-le (drop n w) none) ∙ ap (λ (l : List ℕ). take n w ++ l) (append-nil last)
 
+-- the whole keeps its length
+pub length-back : (n : ℕ) (w last : List ℕ) → n ≤ length w → length last ≡ length (part n w) → length (back n w last) ≡ length w
+length-back n w last h e =
+    ap length (back-is n w last) ∙ length-append (take n w) last ∙ omega (arith, length-take-le n w h, e, length-part n w)
+
 -- what stands before n in the whole, and from n on
 pub take-back : (n : ℕ) (w last : List ℕ) → n ≤ length w → take n (back n w last) ≡ take n w
 take-back n w last h = ap (take n) (back-is n w last) ∙ take-at (take n w) last n (length-take-le n w h)
