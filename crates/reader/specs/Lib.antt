@@ -1,2 +1,2 @@
--- Where a reader stands after a line.
+-- Where a reader stands after a line, and where the line's words are put.
 pub mod Place
