@@ -6,6 +6,7 @@
 //! offsets of document 01.
 
 use std::io::{self, Read};
+use std::process::ExitCode;
 
 use pairing::Number;
 
@@ -28,18 +29,44 @@ fn print_board(rack: &[u8], v: usize, n: usize) -> Result<(), Number> {
     let counts = &rack[COUNTS + LEVELS * v..][..LEVELS];
     let counts: Vec<String> = counts.iter().map(u8::to_string).collect();
     let owns = owned(rack, v, n).join(" ");
-    let line = format!("{v:5}  {level:5}  {mate:>4}  {:11}  {owns}", counts.join(" "));
+    let line = format!(
+        "{v:5}  {level:5}  {mate:>4}  {:11}  {owns}",
+        counts.join(" ")
+    );
     println!("{}", line.trim_end());
     Ok(())
 }
 
-fn main() -> Result<(), Number> {
-    let mut text = Vec::new();
-    io::stdin().read_to_end(&mut text).expect("standard input");
+/// Runs the text, and prints every board of the rack that it leaves.
+fn print_boards(text: &[u8]) -> Result<(), String> {
     let mut rack = vec![0; pairing::RACK_BYTES];
     let mut space = vec![0; pairing::RECORD_SPACE];
-    pairing::run(&mut rack, &text, &mut space).result()?;
+    let outcome = pairing::run(&mut rack, text, &mut space);
+    if outcome.number == Number::BAD_LINE {
+        return Err(format!(
+            "line {} of the trace isn't written as it must be",
+            outcome.line
+        ));
+    }
+    outcome.result().map_err(|number| number.to_string())?;
     let n = usize::from(rack[0]) + 256 * usize::from(rack[1]);
     println!("board  level  mate  counts 0-3   owns links to");
-    (0..n).try_for_each(|v| print_board(&rack, v, n))
+    (0..n)
+        .try_for_each(|v| print_board(&rack, v, n))
+        .map_err(|number| number.to_string())
+}
+
+fn main() -> ExitCode {
+    let mut text = Vec::new();
+    let read = io::stdin().read_to_end(&mut text);
+    let printed = read
+        .map_err(|error| format!("reading the trace: {error}"))
+        .and_then(|_| print_boards(&text));
+    match printed {
+        Ok(()) => ExitCode::SUCCESS,
+        Err(reason) => {
+            eprintln!("boards: {reason}");
+            ExitCode::FAILURE
+        }
+    }
 }

@@ -1,18 +1,18 @@
 -- The lines of the pairs, vertex by vertex, and what the bytes of a sound rack say of each. Assumes nothing.
-use mathlib.Core.Path.{_≡_, refl, sym, ap, _∙_}
+use mathlib.Core.Path.{_≡_, refl, sym, ap, _∙_, subst}
 use mathlib.Core.Logic.{_≢_, inl, inr}
 use mathlib.Core.Bool.{Bool, true, false}
 use mathlib.Core.List.{List, [], _++_, append-nil}
 use Prim.Native.Nat.{ℕ, suc, _-_, _≤_, _<_}
 use native.Mathlib.Omega.{arith}
-use lib.Dec.{ltb, T-not}
+use lib.Dec.{T, ltb, T-not}
 use lib.ListN.{length}
 use Rattle.model.specs.Counting.{listedOnto, listed}
 use Rattle.model.specs.State.{State}
 use Rattle.model.specs.Bytes.{rankAt, mateAt, read}
 use Rattle.model.specs.Text.{texts}
 use Rattle.model.specs.Record.{pairLine}
-use Rattle.model.proofs.Tests.{eq?, bool?, T-true, T-false, leb-yes, leb-no}
+use Rattle.model.proofs.Tests.{eq?, bool?, T-true, T-false, true-T, leb-yes, leb-no}
 use Rattle.model.proofs.Limits.{mateEntry-free, mateEntry-mate}
 use Rattle.model.proofs.Lists.{listed-yes, listed-no}
 use Rattle.moves.specs.Proper.{Held}
@@ -26,14 +26,23 @@ use Rattle.changes.specs.Sounded.{Sounded}
 use Rattle.changes.proofs.Wholes.{sounded-held}
 use Rattle.run.specs.Runs.{pairPart}
 
+-- a text that stands there by a test
+pub shown : (b : Bool) (x : List ℕ) → T b → elim b [ true ↦ x | false ↦ [] ] ≡ x
+shown true x h = refl
+shown false x h = absurd h
+
+pub left-out : (b : Bool) (x : List ℕ) → (T b → ⊥) → _≡_ {A = List ℕ} (elim b [ true ↦ x | false ↦ [] ]) []
+left-out true x h = absurd (h tt)
+left-out false x h = refl
+
 -- v is the lower vertex of a pair, or not
 part-yes : (s : State) (v : ℕ) → ltb v (s .mate v) ≡ true → pairPart s v ≡ pairLine s v
 unfolding pairPart
-part-yes s v e = rw (e, pairPart) refl
+part-yes s v e = shown (ltb v (s .mate v)) (pairLine s v) (true-T e)
 
 part-no : (s : State) (v : ℕ) → ltb v (s .mate v) ≡ false → pairPart s v ≡ []
 unfolding pairPart
-part-no s v e = rw (e, pairPart) refl
+part-no s v e = left-out (ltb v (s .mate v)) (pairLine s v) (λ t. subst T e t)
 
 -- the lines of the pairs whose lower vertex is below v
 abbrev pub pairsTo : State → ℕ → List ℕ

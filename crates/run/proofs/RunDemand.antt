@@ -2,7 +2,7 @@
 -- `run::run` meets its contract. The statement is `RunDemand` (specs/RunDemand.antt). Assumes nothing.
 use mathlib.Core.Path.{_≡_, refl, sym, ap, _∙_, subst}
 use mathlib.Core.Logic.{_≢_, inl, inr}
-use mathlib.Core.Bool.{Bool, true, false}
+use mathlib.Core.Bool.{true, false}
 use mathlib.Core.List.{List, [], _∷_, _++_, append-assoc}
 use Prim.Native.Nat.{ℕ, _+_, _-_, _<_}
 use native.Mathlib.Omega.{arith}
@@ -38,8 +38,8 @@ use Rattle.changes.specs.Sounded.{Sounded}
 use Rattle.changes.proofs.Answered.{sounded-of}
 use Rattle.run.specs.Runs.{pairPart, told}
 use Rattle.run.specs.declared.RunAnswer.{RunAnswer}
-use Rattle.run.specs.RunDemand.{blank, answerBy, changesBy, pairsBy, endingBy, RunDemand}
-use Rattle.run.proofs.Pairs.{part-free, part-upper, part-line}
+use Rattle.run.specs.RunDemand.{freshLedger, answerBy, changesBy, pairsBy, endingBy, RunDemand}
+use Rattle.run.proofs.Pairs.{shown, left-out, part-free, part-upper, part-line}
 use Rattle.run.proofs.Whole.{size-range}
 
 -- A change's line is the ledger's: refused, it shows the number alone, and accepted, its pairs are the ledger's.
@@ -57,15 +57,6 @@ line-by {l} {bs} {c} {d} h = elim (eq? (ledgerNumber l c) 0) [
       ∙ ap (λ (k : ℕ). bytes "(refused " ++ (decimal k ++ bytes ")\n")) (h .number)
       ∙ sym (refused-line (answerBy l c d) e)
 ]
-
--- a text that stands there by a test
-shown : (b : Bool) (x : List ℕ) → T b → elim b [ true ↦ x | false ↦ [] ] ≡ x
-shown true x h = refl
-shown false x h = absurd h
-
-left-out : (b : Bool) (x : List ℕ) → (T b → ⊥) → _≡_ {A = List ℕ} (elim b [ true ↦ x | false ↦ [] ]) []
-left-out true x h = absurd (h tt)
-left-out false x h = refl
 
 -- The lines of the pairs, vertex by vertex, in a sound rack of which the facts hold.
 module _ (l : Ledger) (bs : List ℕ) (ok : Sounded bs) (F : Facts l bs) where
@@ -154,20 +145,20 @@ changes-by s ok (c ∷ cs) =
 
 -- A trace of 1 to 256 vertices, run from a fresh rack.
 run-demand : (t : Trace) → sizeGood (t .n) ≡ true → RunDemand t (write (after base (empty (t .n)) (t .changes))) (recordText base t)
-unfolding recordText blank empty edge
+unfolding recordText freshLedger empty edge
 run-demand t e =
     let r = size-range (t .n) e in
     let ok : Valid base (empty (t .n)) = empty-valid base base-pos (t .n) (r .0) (r .1) in
-    let D : Demand (blank (t .n)) (write (empty (t .n))) (t .changes) = from-valid (empty (t .n)) ok (t .changes) in
+    let D : Demand (freshLedger (t .n)) (write (empty (t .n))) (t .changes) = from-valid (empty (t .n)) ok (t .changes) in
     let left = last-by (empty (t .n)) ok (t .changes) in
-    let book : Ledger = enteredAll (blank (t .n)) (t .changes) in
+    let book : Ledger = enteredAll (freshLedger (t .n)) (t .changes) in
     record {
       demand = D;
       left = left;
       facts = subst (Facts book) (sym left) (D .last);
       says =
           ap (λ (x : List ℕ). rackLine (t .n) ++ x) (changes-by (empty (t .n)) ok (t .changes))
-          ∙ ap (λ (x : List ℕ). rackLine (t .n) ++ (changesBy (blank (t .n)) (write (empty (t .n))) (t .changes) ++ endingBy book x)) (sym left);
+          ∙ ap (λ (x : List ℕ). rackLine (t .n) ++ (changesBy (freshLedger (t .n)) (write (empty (t .n))) (t .changes) ++ endingBy book x)) (sym left);
     }
 
 -- what stands at the start of the space after a run

@@ -16,8 +16,8 @@ use Rattle.theory.specs.Demand.{lastRack, isPair, pairsOf, Facts, Demand}
 use Rattle.record.specs.Line.{pairText, endText}
 
 -- the ledger of a fresh rack of n vertices: no link is there
-unfoldable pub blank : ℕ → Ledger
-blank n = record { n = n; there = λ v w. false }
+unfoldable pub freshLedger : ℕ → Ledger
+freshLedger n = record { n = n; there = λ v w. false }
 
 -- What a change's line has to say by the ledger l, where d is what its call did: the number is the ledger's, and the pairs are the ledger's
 -- links whose ends name each other just after it. The draws and the falls are those of the moves.
@@ -46,9 +46,11 @@ endingBy l bs = pairsBy l bs ++ endText (pairsOf l bs)
 -- the changes alone.
 pub record RunDemand (t : Trace) (last text : List ℕ) : Type 0 where
   -- demand 3 of its changes, each of them and the last rack
-  pub demand : Demand (blank (t .n)) (write (empty (t .n))) (t .changes)
+  pub demand : Demand (freshLedger (t .n)) (write (empty (t .n))) (t .changes)
   -- the rack left is the last one of that list, so the facts are of its bytes, with the ledger's links
   pub left : last ≡ lastRack (write (empty (t .n))) (t .changes)
-  pub facts : Facts (enteredAll (blank (t .n)) (t .changes)) last
+  pub facts : Facts (enteredAll (freshLedger (t .n)) (t .changes)) last
   -- the record is the one that the ledger asks for, to the byte
-  pub says : text ≡ rackLine (t .n) ++ (changesBy (blank (t .n)) (write (empty (t .n))) (t .changes) ++ endingBy (enteredAll (blank (t .n)) (t .changes)) last)
+  pub says : text
+      ≡ rackLine (t .n)
+      ++ (changesBy (freshLedger (t .n)) (write (empty (t .n))) (t .changes) ++ endingBy (enteredAll (freshLedger (t .n)) (t .changes)) last)
