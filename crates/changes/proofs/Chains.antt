@@ -12,15 +12,15 @@ use Rattle.model.specs.Change.{start}
 use Rattle.moves.specs.Proper.{Proper, Ordered, Held}
 use Rattle.moves.proofs.Held.{held-of, reads-as}
 use Rattle.settling.specs.declared.Tally.{Tally}
-use Rattle.settling.specs.Runs.{running, Waiting, Room, Left}
+use Rattle.settling.specs.Settling.{running, HoldsPending, Room, Left}
 use Rattle.settling.proofs.Steps.{Kept, promote-kept}
 use Rattle.settling.proofs.News.{Same, same-then, promote-same, promote-draws, promote-falls}
 use Rattle.settling.proofs.SettleLoop.{settle-same}
 use Rattle.changes.specs.Sounded.{Begun, Liftable, Ran}
 
 -- where nothing is pending, any row of the right width holds all that is
-pub waits-still : (row : List ℕ) (s : State) → length row ≡ 32 → ((v i : ℕ) → T (pending s i v) → ⊥) → Waiting row s
-waits-still row s e f = record { wide = e; holds = λ v i l t. absurd (f v i t) }
+pub none-pending : (row : List ℕ) (s : State) → length row ≡ 32 → ((v i : ℕ) → T (pending s i v) → ⊥) → HoldsPending row s
+none-pending row s e f = record { wide = e; holds = λ v i l t. absurd (f v i t) }
 
 -- a tally of nothing begins a run
 pub begins : (bs : List ℕ) (t : Tally) → t .draws ≡ 0 → t .falls ≡ 0 → Same (running bs t) (start (read bs))
@@ -31,7 +31,7 @@ begins bs t d f = record { state = refl; draws = d; falls = f }
 pub record Next (r : Run) (bs row : List ℕ) (t : Tally) : Type 0 where
   pub held : Held bs
   pub ordered : Ordered (read bs)
-  pub waiting : Waiting row (read bs)
+  pub pends : HoldsPending row (read bs)
   pub same : Same (running bs t) r
 
 pub next-of : {r : Run} {bs row : List ℕ} {t : Tally} → Left r bs row t → Proper (r .state) → Ordered (r .state) → Next r bs row t
@@ -40,7 +40,7 @@ next-of {r} {bs} {row} {t} l p o =
     record {
       held = held-of bs (r .state) (l .rack) p;
       ordered = subst Ordered (sym e) o;
-      waiting = subst (Waiting row) (sym e) (l .waiting);
+      pends = subst (HoldsPending row) (sym e) (l .pends);
       same = record { state = e; draws = l .draws; falls = l .falls };
     }
 

@@ -20,7 +20,7 @@ use Rattle.moves.proofs.Held.{held-of, reads-as, valid-proper, valid-ordered}
 use Rattle.moves.proofs.Keeps.{part-proper}
 use Rattle.edges.proofs.Changed.{add-size, add-proper, drop-proper}
 use Rattle.settling.specs.declared.Tally.{Tally}
-use Rattle.settling.specs.Runs.{running, Waiting, Left}
+use Rattle.settling.specs.Settling.{running, HoldsPending, Left}
 use Rattle.changes.specs.Sounded.{Sounded, Begun, Liftable, Ran}
 use Rattle.changes.proofs.Begun.{still, add-still, add-ordered, drop-ordered, Riser, riser-of, parted-pending}
 use Rattle.changes.proofs.Chains.{begins, settled-same, ran-of}
@@ -119,9 +119,9 @@ module _ (bs₀ bs : List ℕ) (ok : Sounded bs₀) (a b : ℕ) (e : bs ≡ writ
       (subst (λ (s : State). Ran (settle base words (start (part a s))) bs′ t) dropped-read r)
 
 -- the two that were mates are all that can be pending once they are parted
-pub parted-waiting : (bs row : List ℕ) → Begun bs → (a b : ℕ) → a < read bs .n → b < read bs .n → read bs .mate a ≡ b → length row ≡ 32
-    → Waiting (inserted (inserted row a) b) (part a (read bs))
-parted-waiting bs row g a b la lb m e =
+pub parted-holds : (bs row : List ℕ) → Begun bs → (a b : ℕ) → a < read bs .n → b < read bs .n → read bs .mate a ≡ b → length row ≡ 32
+    → HoldsPending (inserted (inserted row a) b) (part a (read bs))
+parted-holds bs row g a b la lb m e =
     let few : read bs .n ≤ 256 = g .held .proper .few in
     let wa : length (inserted row a) ≡ 32 = length-inserted row a ∙ e in
     let in-a : member (inserted row a) a ≡ true = inserted-same row a (omega arith) in
@@ -144,12 +144,12 @@ parted-waiting bs row g a b la lb m e =
     ]
 
 -- where the parting leaves the run
-pub parted-next : (bs₀ bs row : List ℕ) → Begun bs₀ → (a : ℕ) → a < read bs₀ .n → bs ≡ write (part a (read bs₀)) → Waiting row (part a (read bs₀))
-    → (read bs ≡ part a (read bs₀)) × (Held bs × (Ordered (read bs) × Waiting row (read bs)))
+pub parted-next : (bs₀ bs row : List ℕ) → Begun bs₀ → (a : ℕ) → a < read bs₀ .n → bs ≡ write (part a (read bs₀)) → HoldsPending row (part a (read bs₀))
+    → (read bs ≡ part a (read bs₀)) × (Held bs × (Ordered (read bs) × HoldsPending row (read bs)))
 parted-next bs₀ bs row g a l e w =
     let p : Proper (part a (read bs₀)) = part-proper (read bs₀) (g .held .proper) a l in
     let r : read bs ≡ part a (read bs₀) = reads-as bs (part a (read bs₀)) e p in
-    (r, (held-of bs (part a (read bs₀)) e p, (subst Ordered (sym r) ordered, subst (Waiting row) (sym r) w)))
+    (r, (held-of bs (part a (read bs₀)) e p, (subst Ordered (sym r) ordered, subst (HoldsPending row) (sym r) w)))
   where
     ordered : Ordered (part a (read bs₀))
     ordered = unfold part in g .ordered

@@ -123,9 +123,9 @@ fn promote_and_settle(rack: &mut [u8], u: usize, i: usize, words: &[u32]) -> Tal
     requires { ⌜ Liftable (read (now rack)) i u ⌝ }
     ensures { λ r. ⌜ Ran (settled base (now (words .entry)) (promoted (now (words .entry)) i u (start (read (now (rack .entry)))))) (now (rack .exit)) r ⌝ }
 {
-    let mut waiting = layout::empty_row();
-    let t = settling::promote(rack, &mut waiting, words, u, i, Tally::new());
-    settling::settle(rack, &mut waiting, words, t)
+    let mut pending = layout::empty_row();
+    let t = settling::promote(rack, &mut pending, words, u, i, Tally::new());
+    settling::settle(rack, &mut pending, words, t)
 }
 
 // "part them and settle": a's mate is b.
@@ -134,11 +134,11 @@ fn part_and_settle(rack: &mut [u8], a: usize, b: usize, words: &[u32]) -> Tally
     requires { ⌜ (a < read (now rack) .n) × (b < read (now rack) .n) × (read (now rack) .mate a ≡ b) ⌝ }
     ensures { λ r. ⌜ Ran (settled base (now (words .entry)) (start (parted a (read (now (rack .entry)))))) (now (rack .exit)) r ⌝ }
 {
-    let mut waiting = layout::empty_row();
-    bitset::insert(&mut waiting, a);
-    bitset::insert(&mut waiting, b);
+    let mut pending = layout::empty_row();
+    bitset::insert(&mut pending, a);
+    bitset::insert(&mut pending, b);
     moves::part(rack, a);
-    settling::settle(rack, &mut waiting, words, Tally::new())
+    settling::settle(rack, &mut pending, words, Tally::new())
 }
 
 // A drop of an edge that is there: a is the lower number. "If its ends were mates, part them and settle."

@@ -44,7 +44,7 @@ pub fn top() -> usize
 }
 
 // Two bytes as a number, low byte first. Taken as parameters the bytes have their range, so nothing is left to prove.
-fn join(lo: u8, hi: u8) -> u16
+fn two_bytes(lo: u8, hi: u8) -> u16
     ensures { λ r. ⌜ r ≡ lo + 256 * hi ⌝ }
 {
     lo as u16 + 256 * (hi as u16)
@@ -69,7 +69,7 @@ pub fn size(rack: &[u8]) -> usize
     requires { ⌜ Sized (now rack) ⌝ }
     ensures { λ r. ⌜ r ≡ sizeAt (now (rack .entry)) ⌝ }
 {
-    join(rack[0], rack[1]) as usize
+    two_bytes(rack[0], rack[1]) as usize
 }
 
 // The number of edges.
@@ -77,7 +77,7 @@ pub fn edges(rack: &[u8]) -> u16
     requires { ⌜ Sized (now rack) ⌝ }
     ensures { λ r. ⌜ r ≡ edgesAt (now (rack .entry)) ⌝ }
 {
-    join(rack[2], rack[3])
+    two_bytes(rack[2], rack[3])
 }
 
 // Sets the number of edges.
@@ -122,7 +122,7 @@ pub fn mate(rack: &[u8], v: usize) -> u16
     ensures { λ r. ⌜ r ≡ mateAt (now (rack .entry)) v ⌝ }
 {
     let at = 264 + 2 * v;
-    join(rack[at], rack[at + 1])
+    two_bytes(rack[at], rack[at + 1])
 }
 
 // Sets the entry for the mate of vertex v.

@@ -1,4 +1,4 @@
--- Parting and marrying on the bytes: the entries of two mates set, and all else as it was. Assumes nothing.
+-- Parting and pairing on the bytes: the entries of two mates set, and all else as it was. Assumes nothing.
 use mathlib.Core.Path.{_≡_, refl, sym, ap, _∙_}
 use mathlib.Core.Logic.{_≢_, inl, inr}
 use mathlib.Core.Bool.{true, false}

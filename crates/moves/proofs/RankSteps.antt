@@ -1,4 +1,4 @@
--- The steps of a lift and of a fall lead to the writing of the state with the new rank. Assumes nothing.
+-- The steps of entering a level and of a fall lead to the writing of the state with the new rank. Assumes nothing.
 use mathlib.Core.Path.{_≡_, ap, _∙_}
 use mathlib.Core.List.{List}
 use Prim.Native.Nat.{ℕ, suc, _+_, _≤_, _<_}
@@ -12,7 +12,7 @@ use Rattle.layout.proofs.Images.{withRank, setRank-image}
 use Rattle.moves.specs.Proper.{Proper, ranked, RowBelow}
 use Rattle.moves.specs.Counts.{withCounts, zeroedBelow, loweredCounts, raisedCounts}
 use Rattle.moves.proofs.Keeps.{ranked-proper}
-use Rattle.moves.proofs.Recount.{phi-fits, lift-own, lift-phi, fall-own, fall-phi}
+use Rattle.moves.proofs.Recount.{phi-fits, enter-own, enter-phi, fall-own, fall-phi}
 use Rattle.moves.proofs.CountSteps.{setCount-image, zeroed-image}
 
 -- a new rank, where the counts are those of the new rank already
@@ -22,18 +22,18 @@ unfolding withRank withCounts fieldsOf write ranked edges edge mateEntry
 ranked-image s v x l = setRank-image (withCounts (fieldsOf s) (phi (ranked v x s))) v x l
 
 module _ (s : State) (p : Proper s) (i v : ℕ) (l : v < s .n) (top : i ≤ base .top) (row : RowBelow i v s) where
-  lift-counts : s .rank v ≤ i
+  enter-counts : s .rank v ≤ i
       → zeroedBelow (image (withCounts (fieldsOf s) (loweredCounts s i v))) v (i + 1)
       ≡ image (withCounts (fieldsOf s) (phi (ranked v (suc i) s)))
   unfolding withCounts base
-  lift-counts r =
+  enter-counts r =
       zeroed-image (withCounts (fieldsOf s) (loweredCounts s i v)) v (i + 1) (phi (ranked v (suc i) s)) (omega (arith, p .few))
-      (omega arith) (λ j k. lift-own s p i v j l (omega arith)) (λ w j d. lift-phi s p i v w j l r row (λ e. omega (arith, d e)))
+      (omega arith) (λ j k. enter-own s p i v j l (omega arith)) (λ w j d. enter-phi s p i v w j l r row (λ e. omega (arith, d e)))
 
-  pub lift-bytes : s .rank v ≤ i
+  pub enter-bytes : s .rank v ≤ i
       → setRank (zeroedBelow (image (withCounts (fieldsOf s) (loweredCounts s i v))) v (i + 1)) v (i + 1) ≡ write (ranked v (suc i) s)
-  lift-bytes r =
-      ap (λ (bs : List ℕ). setRank bs v (i + 1)) (lift-counts r) ∙ rw add-one (ranked-image s v (suc i) (omega (arith, p .few)))
+  enter-bytes r =
+      ap (λ (bs : List ℕ). setRank bs v (i + 1)) (enter-counts r) ∙ rw add-one (ranked-image s v (suc i) (omega (arith, p .few)))
 
   module _ (r : s .rank v ≡ suc i) where
     -- the count of v at i is the number of edges that it owns

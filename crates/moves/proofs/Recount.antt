@@ -96,12 +96,12 @@ module _ (s : State) (p : Proper s) where
       ∙ count-ext (near (ranked u x s) u j) (near s u j) (s .n) (λ w l. ranked-near s p u x j w) ∙ sym (phi-above s u j h)
 
   -- the counts when u goes up to level i, owning exactly the edges to its neighbours below it
-  pub lift-own : (i u j : ℕ) → u < s .n → j ≤ i → phi (ranked u (suc i) s) u j ≡ 0
-  lift-own i u j l k = phi-zero (ranked u (suc i) s) u j (omega (arith, ranked-here s u (suc i)))
+  pub enter-own : (i u j : ℕ) → u < s .n → j ≤ i → phi (ranked u (suc i) s) u j ≡ 0
+  enter-own i u j l k = phi-zero (ranked u (suc i) s) u j (omega (arith, ranked-here s u (suc i)))
 
-  lift-other : (i u w j : ℕ) → u < s .n → s .rank u ≤ i → RowBelow i u s → w ≢ u → s .rank w ≤ j
+  enter-other : (i u w j : ℕ) → u < s .n → s .rank u ≤ i → RowBelow i u s → w ≢ u → s .rank w ≤ j
       → phi (ranked u (suc i) s) w j ≡ loweredCounts s i u w j
-  lift-other i u w j l k f d seen =
+  enter-other i u w j l k f d seen =
       let new : phi (ranked u (suc i) s) w j ≡ below (ranked u (suc i) s) w j =
       phi-above (ranked u (suc i) s) w j (omega (arith, ranked-there s u (suc i) w d)) in
       let old : phi s w j ≡ below s w j = phi-above s w j seen in
@@ -128,14 +128,14 @@ module _ (s : State) (p : Proper s) where
             omega (arith, lowered-no s i u w j t, ap bit same)
       ]
 
-  pub lift-phi : (i u w j : ℕ) → u < s .n → s .rank u ≤ i → RowBelow i u s → (w ≡ u → i < j)
+  pub enter-phi : (i u w j : ℕ) → u < s .n → s .rank u ≤ i → RowBelow i u s → (w ≡ u → i < j)
       → phi (ranked u (suc i) s) w j ≡ loweredCounts s i u w j
-  lift-phi i u w j l k f d = elim (eq? w u) [
+  enter-phi i u w j l k f d = elim (eq? w u) [
     | inl e ↦ subst (λ (y : ℕ). phi (ranked u (suc i) s) y j ≡ loweredCounts s i u y j) (sym e)
         (own-above u (suc i) j (omega (arith, d e)) (d e)
         ∙ sym (lowered-no s i u u j (λ t. p .no-loop u (hit-says s i u u j t .owned))))
     | inr e ↦ elim (le? (s .rank w) j) [
-      | inl g ↦ lift-other i u w j l k f e g
+      | inl g ↦ enter-other i u w j l k f e g
       | inr g ↦ phi-zero (ranked u (suc i) s) w j (omega (arith, ranked-there s u (suc i) w e))
           ∙ sym (lowered-no s i u w j (λ t. omega (arith, hit-says s i u w j t .seen)) ∙ phi-zero s w j g)
     ]

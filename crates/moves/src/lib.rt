@@ -6,7 +6,7 @@ ghost use Prim.Native.Nat.{ℕ, suc, _+_, _<_, _≤_};
 ghost use lib.Dec.{T};
 ghost use Rattle.model.specs.State.{base};
 ghost use Rattle.model.specs.Bytes.{most as mostOf, phiAt, image, fieldsOf, read, write};
-ghost use Rattle.model.specs.Moves.{part as parted, rise as risen, marry as married, handOver};
+ghost use Rattle.model.specs.Moves.{part as parted, rise as risen, marry as paired, handOver};
 ghost use Rattle.layout.specs.Setters.{Sized, own as owned, disown as disowned};
 ghost use Rattle.layout.specs.Rows.{degreeAt};
 ghost use Rattle.moves.specs.Proper.{Held, tookOver, ranked, RowBelow};
@@ -27,10 +27,10 @@ pub fn part(rack: &mut [u8], v: usize)
 }
 
 // u and y are mates.
-pub fn marry(rack: &mut [u8], u: usize, y: usize)
+pub fn pair(rack: &mut [u8], u: usize, y: usize)
     requires { ⌜ Held (now rack) ⌝ }
     requires { ⌜ (u < read (now rack) .n) × (y < read (now rack) .n) × (u ≢ y) ⌝ }
-    ensures { λ _. ⌜ now (rack .exit) ≡ write (married u y (read (now (rack .entry)))) ⌝ }
+    ensures { λ _. ⌜ now (rack .exit) ≡ write (paired u y (read (now (rack .entry)))) ⌝ }
 {
     layout::set_mate(rack, u, y as u16);
     layout::set_mate(rack, y, u as u16);
@@ -133,7 +133,7 @@ fn zero_counts(rack: &mut [u8], u: usize, k: usize)
 }
 
 // u stands at level i: the second half of a rise, once its edges to the vertices below i are its own.
-fn lift(rack: &mut [u8], u: usize, i: usize)
+fn enter(rack: &mut [u8], u: usize, i: usize)
     requires { ⌜ Held (now rack) ⌝ }
     requires { ⌜ (u < read (now rack) .n) × (read (now rack) .rank u ≤ i) × (i ≤ base .top) ⌝ }
     requires { ⌜ RowBelow i u (read (now rack)) ⌝ }
@@ -152,7 +152,7 @@ pub fn rise(rack: &mut [u8], u: usize, i: usize)
     ensures { λ _. ⌜ now (rack .exit) ≡ write (risen i u (read (now (rack .entry)))) ⌝ }
 {
     take_over(rack, u, i);
-    lift(rack, u, i);
+    enter(rack, u, i);
 }
 
 // The counts at i of the vertices to which v owns an edge gain v, which falls below level i.

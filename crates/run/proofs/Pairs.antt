@@ -24,7 +24,7 @@ use Rattle.trace.proofs.Bound.{pair-most}
 use Rattle.trace.proofs.RecordFits.{valid-small}
 use Rattle.changes.specs.Sounded.{Sounded}
 use Rattle.changes.proofs.Wholes.{sounded-held}
-use Rattle.run.specs.Runs.{pairPart}
+use Rattle.run.specs.Recording.{pairPart}
 
 -- a text that stands there by a test
 pub shown : (b : Bool) (x : List ℕ) → T b → elim b [ true ↦ x | false ↦ [] ] ≡ x

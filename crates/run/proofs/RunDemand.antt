@@ -36,7 +36,7 @@ use Rattle.record.specs.Line.{pairText, endText}
 use Rattle.record.proofs.Laws.{end-line}
 use Rattle.changes.specs.Sounded.{Sounded}
 use Rattle.changes.proofs.Answered.{sounded-of}
-use Rattle.run.specs.Runs.{pairPart, told}
+use Rattle.run.specs.Recording.{pairPart, told}
 use Rattle.run.specs.declared.RunAnswer.{RunAnswer}
 use Rattle.run.specs.RunDemand.{freshLedger, answerBy, changesBy, pairsBy, endingBy, RunDemand}
 use Rattle.run.proofs.Pairs.{shown, left-out, part-free, part-upper, part-line}

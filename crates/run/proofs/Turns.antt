@@ -24,7 +24,7 @@ use Rattle.trace.proofs.Bound.{pairs-most, end-most}
 use Rattle.trace.proofs.RecordFits.{valid-small, valid-figures}
 use Rattle.changes.specs.Sounded.{Sounded}
 use Rattle.changes.proofs.Answered.{sounded-of}
-use Rattle.run.specs.Runs.{endingRoom, endingText, Ready, Played}
+use Rattle.run.specs.Recording.{endingRoom, endingText, Ready, Played}
 
 -- bytes that write a valid state are sound, and reading them gives it again
 pub sounded-read : (bs : List ℕ) (s : State) → bs ≡ write s → Valid base s → Sounded bs × (read bs ≡ s)

@@ -26,7 +26,7 @@ use Rattle.engine.proofs.Numbers.{make-five, make-new}
 use Rattle.changes.specs.Sounded.{Sounded}
 use Rattle.trace.specs.Check.{Kept}
 use Rattle.trace.proofs.Keeping.{kept-same}
-use Rattle.run.specs.Runs.{Ready, Played, Recordable, Written, Took}
+use Rattle.run.specs.Recording.{Ready, Played, Recordable, Written, Took}
 use Rattle.run.proofs.Turns.{sounded-read}
 
 -- "n is 1 to 256"

@@ -1,3 +1,3 @@
 -- The definitions that the contracts of `run` cite, and demand 3 of a run.
-pub mod Runs
+pub mod Recording
 pub mod RunDemand

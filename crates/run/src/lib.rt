@@ -15,7 +15,7 @@ ghost use Rattle.model.specs.Run.{Ran, spaceLength};
 ghost use Rattle.text.specs.Writing.{Put};
 ghost use Rattle.record.specs.Line.{answerRoom, pairRoom};
 ghost use Rattle.changes.specs.Sounded.{Sounded, brought};
-ghost use Rattle.run.specs.Runs.{endingRoom, endingText, pairPart, Ready, Played, Recordable, Written, Took, told, Shown};
+ghost use Rattle.run.specs.Recording.{endingRoom, endingText, pairPart, Ready, Played, Recordable, Written, Took, told, Shown};
 
 // The most bytes of a trace text.
 pub const TEXT_LIMIT: usize = 16384;

@@ -18,9 +18,9 @@ use Rattle.layout.specs.Rows.{degreeAt, NthOwned}
 use Rattle.moves.specs.Proper.{Held, RowBelow}
 use Rattle.moves.proofs.Held.{held-mate, held-owns, held-degree, held-small, nth-in}
 use Rattle.moves.proofs.Pairs.{entry-free as entry-alone}
-use Rattle.settling.specs.Runs.{running, noted}
+use Rattle.settling.specs.Settling.{running, noted}
 use Rattle.settling.specs.declared.Tally.{Tally}
-use Rattle.settling.proofs.Waits.{noted-paired}
+use Rattle.settling.proofs.Pending.{noted-paired}
 
 module _ (bs : List ℕ) (h : Held bs) (v : ℕ) (l : v < read bs .n) where
   -- the entry for no mate, and any other

@@ -2,7 +2,7 @@
 pub mod Steps
 pub mod News
 pub mod Kept
-pub mod Waits
+pub mod Pending
 pub mod Live
 pub mod Entries
 pub mod Written

@@ -15,7 +15,7 @@ use Rattle.theory.proofs.Loops.{scanUpto}
 use Rattle.theory.proofs.Ownership.{out, back, rest, turned}
 use Rattle.moves.specs.Proper.{Proper, Ordered, RowBelow}
 use Rattle.moves.proofs.Edges.{edge-of, near-of, near-edge, near-low}
-use Rattle.settling.specs.Runs.{visited}
+use Rattle.settling.specs.Settling.{visited}
 use Rattle.settling.proofs.Steps.{Kept, part-kept, rise-edge, lift-kept, lift-below, near-inside, chosen-near, due-low}
 use Rattle.settling.proofs.News.{visited-yes, visited-no, upto-none, upto-yes, upto-no}
 use Rattle.settling.proofs.Kept.{upto-kept}

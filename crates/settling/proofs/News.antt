@@ -12,7 +12,7 @@ use Rattle.model.specs.State.{Rules, State, near}
 use Rattle.model.specs.Moves.{Run, at, part, rise, marry, place, chosen, drawn, draw, promote, due, scanFrom}
 use Rattle.model.proofs.Tests.{holds?, T-true, T-false}
 use Rattle.theory.proofs.Loops.{scanStep, scanUpto, scanFrom-loop}
-use Rattle.settling.specs.Runs.{visited}
+use Rattle.settling.specs.Settling.{visited}
 
 -- runs that differ in their new pairs alone
 pub record Same (r q : Run) : Type 0 where

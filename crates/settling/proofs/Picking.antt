@@ -16,7 +16,7 @@ use Rattle.bitset.specs.Row.{Next}
 use Rattle.moves.specs.Proper.{Proper, Held}
 use Rattle.moves.proofs.Held.{held-rank, held-mate, held-small}
 use Rattle.moves.proofs.Pairs.{entry-free as entry-alone}
-use Rattle.settling.specs.Runs.{Waiting}
+use Rattle.settling.specs.Settling.{HoldsPending}
 
 -- `at` is the first free vertex of rank best
 pub record First (s : State) (best at : ℕ) : Type 0 where
@@ -30,7 +30,7 @@ pub record Best (s : State) (best at v : ℕ) : Type 0 where
   pub high : (w : ℕ) → w < v → w < s .n → s .mate w ≡ w → s .rank w ≤ best
   pub is : 1 ≤ best → First s best at
 
-module _ (row : List ℕ) (s : State) (h : Waiting row s) where
+module _ (row : List ℕ) (s : State) (h : HoldsPending row s) where
   -- the row holds every free vertex of a rank from 1 on, so those that a step passes over have rank 0
   passed-by : (from r : ℕ) → Next row from r → (w : ℕ) → from ≤ w → w < r → w < s .n → s .mate w ≡ w → (k : ℕ) → s .rank w ≡ k → k ≡ 0
   passed-by from r n w a b l f zero e = refl
@@ -85,7 +85,7 @@ best-small s best at v p g = elim (le? 1 best) [ inl k ↦ omega (arith, p .rank
 -- A turn of the pass on the bytes, at v, which leads to r.
 pub record Turn (bs row : List ℕ) (best at v r : ℕ) : Type 0 where
   pub held : Held bs
-  pub waiting : Waiting row (read bs)
+  pub pends : HoldsPending row (read bs)
   pub found : Best (read bs) best at v
   pub inside : v < read bs .n
   pub next : Next row (v + 1) r
@@ -108,10 +108,10 @@ module _ {bs row : List ℕ} {best at v r : ℕ} (t : Turn bs row best at v r) w
   pub turn-same : {best₁ at₁ : ℕ} → best₁ ≡ best → at₁ ≡ at → (mateAt bs v ≡ noMate → rankAt bs v ≤ best) → Best (read bs) best₁ at₁ r
   turn-same p q m =
       rw (p, q)
-      (best-same row (read bs) (t .waiting) best at v r (t .found) (λ f. omega (arith, rank-is, m (free-entry f))) (t .next))
+      (best-same row (read bs) (t .pends) best at v r (t .found) (λ f. omega (arith, rank-is, m (free-entry f))) (t .next))
 
   -- v is free and of a higher rank
   pub turn-more : {best₁ at₁ : ℕ} → best₁ ≡ rankAt bs v → at₁ ≡ v → best < rankAt bs v → mateAt bs v ≡ noMate → Best (read bs) best₁ at₁ r
   turn-more p q m f =
       rw (p, q, rank-is)
-      (best-more row (read bs) (t .waiting) best at v r (t .found) (t .inside) (entry-free f) (omega (arith, rank-is)) (t .next))
+      (best-more row (read bs) (t .pends) best at v r (t .found) (t .inside) (entry-free f) (omega (arith, rank-is)) (t .next))

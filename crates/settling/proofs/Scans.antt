@@ -16,7 +16,7 @@ use Rattle.layout.specs.Setters.{Sized}
 use Rattle.layout.specs.Rows.{NextOwned}
 use Rattle.moves.specs.Proper.{Proper, Ordered, Held, RowBelow}
 use Rattle.moves.proofs.Held.{reads-as, held-of, held-owns, held-small, NextIn, next-in}
-use Rattle.settling.specs.Runs.{running, Waiting, Left, visited}
+use Rattle.settling.specs.Settling.{running, HoldsPending, Left, visited}
 use Rattle.settling.specs.declared.Tally.{Tally}
 use Rattle.settling.proofs.Steps.{Kept}
 use Rattle.settling.proofs.News.{Same, visited-same, upto-none, upto-yes, upto-room}
@@ -28,7 +28,7 @@ left-same {row} e a = record {
   rack = a .rack ∙ ap write (e .state);
   draws = a .draws ∙ e .draws;
   falls = a .falls ∙ e .falls;
-  waiting = subst (Waiting row) (e .state) (a .waiting);
+  pends = subst (HoldsPending row) (e .state) (a .pends);
 }
 
 -- the bytes that a run leaves are a rack's
@@ -78,27 +78,27 @@ module _ {words : List ℕ} {i v : ℕ} {bs₀ : List ℕ} {t₀ : Tally} (a : B
         is = λ b. x .is (omega (arith, q .size, ap (λ (s : State). s .n) e));
       }
 
-  pub scan-starts : {row : List ℕ} {w : ℕ} → Waiting row (read bs₀) → NextOwned bs₀ v 0 w → Scanning words i v bs₀ t₀ bs₀ row t₀ w
+  pub scan-starts : {row : List ℕ} {w : ℕ} → HoldsPending row (read bs₀) → NextOwned bs₀ v 0 w → Scanning words i v bs₀ t₀ bs₀ row t₀ w
   unfolding done
   scan-starts {row} c n =
       next-done 0
       (subst (λ (r : Run). Left r bs₀ row t₀) (sym (upto-none base words i (read bs₀ .owns v) (running bs₀ t₀)))
-      (record { rack = a .held .written; draws = refl; falls = refl; waiting = c })) n
+      (record { rack = a .held .written; draws = refl; falls = refl; pends = c })) n
 
   module _ {bs row : List ℕ} {t : Tally} {w : ℕ} (g : Scanning words i v bs₀ t₀ bs row t w) where
     -- what the visit asks
     pub scan-visits : w < read bs₀ .n → t₀ .draws ≤ 900000
-        → (Held bs × Ordered (read bs)) × (((w < read bs .n) × (i ≤ base .top)) × (Waiting row (read bs) × (t .draws ≤ 1000000)))
+        → (Held bs × Ordered (read bs)) × (((w < read bs .n) × (i ≤ base .top)) × (HoldsPending row (read bs) × (t .draws ≤ 1000000)))
     unfolding done
     scan-visits b d =
         let q : Kept (read bs₀) (done w .state) = done-kept w in
         let e : read bs ≡ done w .state = reads-as bs (done w .state) (g .left .rack) (q .proper) in
         let m = upto-room words i base (read bs₀ .owns v) w (running bs₀ t₀) .0 in
-        subst (λ (s : State). (Held bs × Ordered s) × (((w < s .n) × (i ≤ base .top)) × (Waiting row s × (t .draws ≤ 1000000)))) (sym e) (
+        subst (λ (s : State). (Held bs × Ordered s) × (((w < s .n) × (i ≤ base .top)) × (HoldsPending row s × (t .draws ≤ 1000000)))) (sym e) (
           (held-of bs (done w .state) (g .left .rack) (q .proper), q .ordered),
           (
             (omega (arith, q .size), a .level),
-            (g .left .waiting, omega (arith, g .left .draws, g .within)),
+            (g .left .pends, omega (arith, g .left .draws, g .within)),
           ),
         )
 

@@ -13,7 +13,7 @@ use Rattle.theory.proofs.Settling.{settle-step, settle-rest}
 use Rattle.moves.specs.Proper.{Proper, Ordered, Held}
 use Rattle.moves.proofs.Held.{reads-as, held-of, held-size}
 use Rattle.settling.specs.declared.Tally.{Tally}
-use Rattle.settling.specs.Runs.{running, Waiting, Room, Left}
+use Rattle.settling.specs.Settling.{running, HoldsPending, Room, Left}
 use Rattle.settling.proofs.News.{same-then}
 use Rattle.settling.proofs.Kept.{Kept, Same, take-kept, take-room, take-same}
 
@@ -48,7 +48,7 @@ taking-of s i v p e =
 pub record Going (words : List ℕ) (r : Run) (bs row : List ℕ) (left : ℕ) (t : Tally) : Type 0 where
   pub held : Held bs
   pub ordered : Ordered (read bs)
-  pub waiting : Waiting row (read bs)
+  pub pends : HoldsPending row (read bs)
   pub ahead : Same (settleIn base words left (running bs t)) (settle base words r)
   pub draws : t .draws + 257 * left ≤ 300000
   pub falls : t .falls + left ≤ 300000
@@ -62,13 +62,13 @@ module _ {bs : List ℕ} (h : Held bs) (n top : ℕ) (e : n ≡ sizeAt bs) (f : 
   unfolding base
   takings-few = rw takings (omega (arith, h .proper .few))
 
-pub going-start : (words bs row : List ℕ) (left : ℕ) (t : Tally) → Held bs → Ordered (read bs) → Waiting row (read bs) → Room 1 0 t
+pub going-start : (words bs row : List ℕ) (left : ℕ) (t : Tally) → Held bs → Ordered (read bs) → HoldsPending row (read bs) → Room 1 0 t
     → left ≡ read bs .n * suc (base .top) → Going words (running bs t) bs row left t
 unfolding settle base
 going-start words bs row left t h o w m e = record {
   held = h;
   ordered = o;
-  waiting = w;
+  pends = w;
   ahead = rw e (record { state = refl; draws = refl; falls = refl });
   draws = omega (arith, m .draws, h .proper .few);
   falls = omega (arith, m .falls, h .proper .few);
@@ -86,7 +86,7 @@ module _ {words : List ℕ} {r : Run} {bs row : List ℕ} {left : ℕ} {t : Tall
         rack = g .held .written ∙ ap write (s .state);
         draws = s .draws;
         falls = s .falls;
-        waiting = subst (Waiting row) (s .state) (g .waiting);
+        pends = subst (HoldsPending row) (s .state) (g .pends);
       }
 
   pub going-rest : pick (suc (base .top)) (read bs) ≡ none → Left (settle base words r) bs row t
@@ -111,7 +111,7 @@ module _ {words : List ℕ} {r : Run} {bs row : List ℕ} {left : ℕ} {t : Tall
       record {
         held = held-of bs₁ (q .state) (l .rack) (h .proper);
         ordered = subst Ordered (sym z) (h .ordered);
-        waiting = subst (Waiting row₁) (sym z) (l .waiting);
+        pends = subst (HoldsPending row₁) (sym z) (l .pends);
         ahead = same-then (settle-same words k (running bs₁ t₁) q s) (rw (n, settle-step base words k i v (running bs t) e) at (g .ahead));
         draws = omega (arith, l .draws, m .0, g .draws);
         falls = omega (arith, l .falls, m .1, g .falls);

@@ -20,7 +20,7 @@ use Rattle.theory.proofs.Runs.{place-less}
 use Rattle.moves.specs.Proper.{Proper, Ordered, tookOver, ranked, RowBelow}
 use Rattle.moves.proofs.Edges.{near-edge, near-low, edge-loop, simple}
 use Rattle.moves.proofs.Keeps.{part-proper, marry-proper, hand-proper, ranked-proper, rise-proper, took-proper, took-edge, hand-edge, rise-ordered, hand-ordered, fall-ordered, ranked-near}
-use Rattle.settling.specs.Runs.{visited}
+use Rattle.settling.specs.Settling.{visited}
 
 -- t has s's vertices and edges, and is proper and ordered
 pub record Kept (s t : State) : Type 0 where

@@ -10,7 +10,7 @@ use Rattle.model.specs.Moves.{due, promote}
 use Rattle.model.proofs.Tests.{and-intro, and-left, and-right}
 use Rattle.moves.specs.Proper.{Held}
 use Rattle.moves.proofs.Held.{held-rank, held-phi, held-small}
-use Rattle.settling.specs.Runs.{running, Waiting, Left, visited}
+use Rattle.settling.specs.Settling.{running, HoldsPending, Left, visited}
 use Rattle.settling.specs.declared.Tally.{Tally}
 use Rattle.settling.proofs.News.{visited-yes, visited-no}
 
@@ -47,10 +47,10 @@ module _ {bs : List ℕ} {i w : ℕ} (a : Visiting bs i w) where
       (le→leb (read bs .rank w) i (omega (arith, turn-rank))) (le→leb (base .thr i) (phi (read bs) w i) (omega (arith, turn-phi)))
 
   -- a vertex that is not due is passed over
-  pub turn-passed : (words : List ℕ) {row : List ℕ} (t : Tally) → Waiting row (read bs) → (T (due base i w (read bs)) → ⊥)
+  pub turn-passed : (words : List ℕ) {row : List ℕ} (t : Tally) → HoldsPending row (read bs) → (T (due base i w (read bs)) → ⊥)
       → Left (visited base words i w (running bs t)) bs row t
   turn-passed words t c n =
-      rw (visited-no base words i w (running bs t) n) (record { rack = a .held .written; draws = refl; falls = refl; waiting = c })
+      rw (visited-no base words i w (running bs t) n) (record { rack = a .held .written; draws = refl; falls = refl; pends = c })
 
   pub turn-promoted : (words : List ℕ) {row d : List ℕ} (t : Tally) {r : Tally} → T (due base i w (read bs))
       → Left (promote words i w (running bs t)) d row r → Left (visited base words i w (running bs t)) d row r

@@ -13,10 +13,10 @@ use Rattle.moves.specs.Proper.{Proper, Ordered, Held, RowBelow, tookOver}
 use Rattle.moves.proofs.Edges.{near-low}
 use Rattle.moves.proofs.Keeps.{part-proper, took-proper, took-row, ranked-row, rise-halves}
 use Rattle.moves.proofs.Held.{reads-as, held-of}
-use Rattle.settling.specs.Runs.{running, WaitingBut, Waiting, noted, Left}
+use Rattle.settling.specs.Settling.{running, HoldsPendingBut, HoldsPending, noted, Left}
 use Rattle.settling.specs.declared.Tally.{Tally}
 use Rattle.settling.proofs.Steps.{Kept, lift-below, lift-kept, near-inside, near-other}
-use Rattle.settling.proofs.Waits.{waits-risen, waits-drawn}
+use Rattle.settling.proofs.Pending.{pending-risen, pending-drawn}
 
 -- the bytes hold an ordered state in which v stands below level i
 pub record Rising (bs : List ℕ) (i v : ℕ) : Type 0 where
@@ -33,7 +33,7 @@ Rises i v s = ((v < s .n) × (s .rank v ≤ i) × (i ≤ base .top)) × ((w : �
 -- what a draw at u among k asks of the bytes, their state, the row and the number of draws
 abbrev pub Draws : List ℕ → ℕ → ℕ → ℕ → List ℕ → ℕ → State → Type 0
 Draws b i u k row d s =
-    (Held b × Ordered s) × (((u < s .n) × (i ≤ base .top)) × ((RowBelow i u s × (1 ≤ below s u i) × (k ≡ degreeAt b u)) × (WaitingBut u row s × (d ≤ 1000000))))
+    (Held b × Ordered s) × (((u < s .n) × (i ≤ base .top)) × ((RowBelow i u s × (1 ≤ below s u i) × (k ≡ degreeAt b u)) × (HoldsPendingBut u row s × (d ≤ 1000000))))
 
 pub draws-of : {b row : List ℕ} (s : State) → b ≡ write s → Proper s → (i u k d : ℕ) → Draws b i u k row d s → Draws b i u k row d (read b)
 draws-of {b} {row} s e p i u k d a = subst (Draws b i u k row d) (sym (reads-as b s e p)) a
@@ -77,8 +77,8 @@ module _ {bs : List ℕ} {i v : ℕ} (a : Rising bs i v) {b : List ℕ} where
   lifted-held e = held-of b (rise i v (part v (read bs))) e (lifted-kept a .proper)
 
   -- v draws next
-  pub lifted-draws : b ≡ write (rise i v (part v (read bs))) → {row waiting : List ℕ} (k d : ℕ) → 1 ≤ below (read bs) v i → Waiting row (read bs)
-      → waiting ≡ noted (read bs) row v → d ≤ 1000000 → k ≡ degreeAt b v → Draws b i v k waiting d (read b)
+  pub lifted-draws : b ≡ write (rise i v (part v (read bs))) → {row pending : List ℕ} (k d : ℕ) → 1 ≤ below (read bs) v i → HoldsPending row (read bs)
+      → pending ≡ noted (read bs) row v → d ≤ 1000000 → k ≡ degreeAt b v → Draws b i v k pending d (read b)
   lifted-draws e {row} k d n w f x g =
       let s : State = rise i v (part v (read bs)) in
       draws-of s e (lifted-kept a .proper) i v k d (
@@ -91,15 +91,15 @@ module _ {bs : List ℕ} {i v : ℕ} (a : Rising bs i v) {b : List ℕ} where
               omega (arith, lift-below (read bs) (a .held .proper) (a .ordered) i v (a .inside)),
               g,
             ),
-            (subst (λ (y : List ℕ). WaitingBut v y s) (sym f) (waits-risen (read bs) (a .held .proper) row i v (a .inside) w), x),
+            (subst (λ (y : List ℕ). HoldsPendingBut v y s) (sym f) (pending-risen (read bs) (a .held .proper) row i v (a .inside) w), x),
           ),
         ),
       )
 
-  pub promoted-left : b ≡ write (rise i v (part v (read bs))) → (words : List ℕ) {waiting d : List ℕ} (t : Tally) {r : Tally}
-      → Left (draw words i v (running b t)) d waiting r → Left (promote words i v (running bs t)) d waiting r
+  pub promoted-left : b ≡ write (rise i v (part v (read bs))) → (words : List ℕ) {pending d : List ℕ} (t : Tally) {r : Tally}
+      → Left (draw words i v (running b t)) d pending r → Left (promote words i v (running bs t)) d pending r
   unfolding promote
-  promoted-left e words {waiting} {d} t {r} c = subst (λ (s : State). Left (draw words i v (at (running bs t) s)) d waiting r) (lifted-read e) c
+  promoted-left e words {pending} {d} t {r} c = subst (λ (s : State). Left (draw words i v (at (running bs t) s)) d pending r) (lifted-read e) c
 
 -- y is a neighbour of u below level i
 pub record Drawing (bs : List ℕ) (i u y : ℕ) : Type 0 where
@@ -119,22 +119,22 @@ module _ {bs : List ℕ} {i u y : ℕ} (a : Drawing bs i u y) {b : List ℕ} (e 
   other : u ≢ y
   other = near-other (read bs) (a .rising .held .proper) u i y (a .near)
 
-  pub lifted-marries : Held b × ((u < read b .n) × (y < read b .n) × (u ≢ y))
+  pub lifted-pairs : Held b × ((u < read b .n) × (y < read b .n) × (u ≢ y))
   unfolding rise part
-  lifted-marries = (
+  lifted-pairs = (
     lifted-held (a .rising) e,
     subst (λ (s : State). (u < s .n) × (y < s .n) × (u ≢ y)) (sym (lifted-read (a .rising) e)) (a .inside, a .rising .inside, other),
   )
 
-  pub drawn-left : (words : List ℕ) {row waiting d : List ℕ} (t : Tally) {r : Tally} → WaitingBut u row (read bs) → y ≡ chosen words i u (running bs t)
-      → waiting ≡ noted (read bs) row y → d ≡ write (marry u y (read b)) → (r .draws ≡ suc (t .draws)) × (r .falls ≡ t .falls)
-      → Left (draw words i u (running bs t)) d waiting r
+  pub drawn-left : (words : List ℕ) {row pending d : List ℕ} (t : Tally) {r : Tally} → HoldsPendingBut u row (read bs) → y ≡ chosen words i u (running bs t)
+      → pending ≡ noted (read bs) row y → d ≡ write (marry u y (read b)) → (r .draws ≡ suc (t .draws)) × (r .falls ≡ t .falls)
+      → Left (draw words i u (running bs t)) d pending r
   unfolding draw drawn
-  drawn-left words {row} {waiting} {d} t {r} w c n f g =
-      subst (λ (x : ℕ). Left (drawn i u x (running bs t)) d waiting r) c (record {
+  drawn-left words {row} {pending} {d} t {r} w c n f g =
+      subst (λ (x : ℕ). Left (drawn i u x (running bs t)) d pending r) c (record {
         rack = f ∙ ap (λ (s : State). write (marry u y s)) (lifted-read (a .rising) e);
         draws = g .0;
         falls = g .1;
-        waiting = subst (λ (x : List ℕ). Waiting x (marry u y (rise i y (part y (read bs))))) (sym n)
-            (waits-drawn (read bs) (a .rising .held .proper) row i u y other (a .rising .inside) w);
+        pends = subst (λ (x : List ℕ). HoldsPending x (marry u y (rise i y (part y (read bs))))) (sym n)
+            (pending-drawn (read bs) (a .rising .held .proper) row i u y other (a .rising .inside) w);
       })

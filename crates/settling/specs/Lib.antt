@@ -1,2 +1,2 @@
 -- The definitions that the contracts of `settling` cite, beside the moves of `model` and the proper states of `moves`.
-pub mod Runs
+pub mod Settling

@@ -9,7 +9,7 @@ ghost use Rattle.model.specs.Bytes.{read, write};
 ghost use Rattle.model.specs.Moves.{part as parted, rise as risen, chosen, draw as drawn, promote as promoted, scanFrom, take as taken, pick as picked, settle as settled};
 ghost use Rattle.layout.specs.Rows.{degreeAt};
 ghost use Rattle.moves.specs.Proper.{Ordered, Held, RowBelow};
-ghost use Rattle.settling.specs.Runs.{running, WaitingBut, Waiting, noted, Room, Left, visited, foundBy};
+ghost use Rattle.settling.specs.Settling.{running, HoldsPendingBut, HoldsPending, noted, Room, Left, visited, foundBy};
 
 // "A change answers 0, its draws, its falls": both figures, handed on from move to move.
 pub struct Tally {
@@ -65,16 +65,16 @@ fn word_at(words: &[u32], k: usize) -> u32
 }
 
 // v's mate, if it has one, may be pending from now on.
-fn note_mate(rack: &[u8], waiting: &mut [u8], v: usize)
+fn note_mate(rack: &[u8], pending: &mut [u8], v: usize)
     requires { ⌜ Held (now rack) ⌝ }
-    requires { ⌜ (v < read (now rack) .n) × (length (now waiting) ≡ 32) ⌝ }
-    ensures { λ _. ⌜ now (waiting .exit) ≡ noted (read (now (rack .entry))) (now (waiting .entry)) v ⌝ }
+    requires { ⌜ (v < read (now rack) .n) × (length (now pending) ≡ 32) ⌝ }
+    ensures { λ _. ⌜ now (pending .exit) ≡ noted (read (now (rack .entry))) (now (pending .entry)) v ⌝ }
 {
     let m = layout::mate(rack, v);
     if m == layout::NO_MATE {
         return;
     }
-    bitset::insert(waiting, m as usize);
+    bitset::insert(pending, m as usize);
 }
 
 // The vertex that the next word draws: u's row holds its neighbours below level i, k of them, and trailing zeros lead to the place in it.
@@ -88,13 +88,13 @@ fn choose(rack: &[u8], words: &[u32], u: usize, i: usize, k: usize, tally: Tally
 }
 
 // v loses its mate if it has one, which may be pending from now on, and rises to i.
-fn lift(rack: &mut [u8], waiting: &mut [u8], v: usize, i: usize)
+fn lift(rack: &mut [u8], pending: &mut [u8], v: usize, i: usize)
     requires { ⌜ (Held (now rack)) × (Ordered (read (now rack))) ⌝ }
-    requires { ⌜ (v < read (now rack) .n) × (read (now rack) .rank v ≤ i) × (i ≤ base .top) × (length (now waiting) ≡ 32) ⌝ }
+    requires { ⌜ (v < read (now rack) .n) × (read (now rack) .rank v ≤ i) × (i ≤ base .top) × (length (now pending) ≡ 32) ⌝ }
     ensures { λ _. ⌜ now (rack .exit) ≡ write (risen i v (parted v (read (now (rack .entry))))) ⌝ }
-    ensures { λ _. ⌜ now (waiting .exit) ≡ noted (read (now (rack .entry))) (now (waiting .entry)) v ⌝ }
+    ensures { λ _. ⌜ now (pending .exit) ≡ noted (read (now (rack .entry))) (now (pending .entry)) v ⌝ }
 {
-    note_mate(rack, waiting, v);
+    note_mate(rack, pending, v);
     moves::part(rack, v);
     moves::rise(rack, v, i);
 }
@@ -102,7 +102,7 @@ fn lift(rack: &mut [u8], waiting: &mut [u8], v: usize, i: usize)
 // "Draw at u, level i", once u's row holds exactly its neighbours below i, k of them.
 fn draw(
     rack: &mut [u8],
-    waiting: &mut [u8],
+    pending: &mut [u8],
     words: &[u32],
     u: usize,
     i: usize,
@@ -112,19 +112,19 @@ fn draw(
     requires { ⌜ (Held (now rack)) × (Ordered (read (now rack))) ⌝ }
     requires { ⌜ (u < read (now rack) .n) × (i ≤ base .top) ⌝ }
     requires { ⌜ (RowBelow i u (read (now rack))) × (1 ≤ below (read (now rack)) u i) × (k ≡ degreeAt (now rack) u) ⌝ }
-    requires { ⌜ (WaitingBut u (now waiting) (read (now rack))) × (tally .draws ≤ 1000000) ⌝ }
-    ensures { λ r. ⌜ Left (drawn (now (words .entry)) i u (running (now (rack .entry)) tally)) (now (rack .exit)) (now (waiting .exit)) r ⌝ }
+    requires { ⌜ (HoldsPendingBut u (now pending) (read (now rack))) × (tally .draws ≤ 1000000) ⌝ }
+    ensures { λ r. ⌜ Left (drawn (now (words .entry)) i u (running (now (rack .entry)) tally)) (now (rack .exit)) (now (pending .exit)) r ⌝ }
 {
     let y = choose(rack, words, u, i, k, tally);
-    lift(rack, waiting, y, i);
-    moves::marry(rack, u, y);
+    lift(rack, pending, y, i);
+    moves::pair(rack, u, y);
     tally.drew()
 }
 
 // "loses its mate if it has one, rises to i and draws"
 pub fn promote(
     rack: &mut [u8],
-    waiting: &mut [u8],
+    pending: &mut [u8],
     words: &[u32],
     u: usize,
     i: usize,
@@ -132,18 +132,18 @@ pub fn promote(
 ) -> Tally
     requires { ⌜ (Held (now rack)) × (Ordered (read (now rack))) ⌝ }
     requires { ⌜ (u < read (now rack) .n) × (read (now rack) .rank u ≤ i) × (i ≤ base .top) × (1 ≤ below (read (now rack)) u i) ⌝ }
-    requires { ⌜ (Waiting (now waiting) (read (now rack))) × (tally .draws ≤ 1000000) ⌝ }
-    ensures { λ r. ⌜ Left (promoted (now (words .entry)) i u (running (now (rack .entry)) tally)) (now (rack .exit)) (now (waiting .exit)) r ⌝ }
+    requires { ⌜ (HoldsPending (now pending) (read (now rack))) × (tally .draws ≤ 1000000) ⌝ }
+    ensures { λ r. ⌜ Left (promoted (now (words .entry)) i u (running (now (rack .entry)) tally)) (now (rack .exit)) (now (pending .exit)) r ⌝ }
 {
-    lift(rack, waiting, u, i);
+    lift(rack, pending, u, i);
     let k = layout::degree(rack, u);
-    draw(rack, waiting, words, u, i, k, tally)
+    draw(rack, pending, words, u, i, k, tally)
 }
 
 // A vertex's turn in the scan: "each one that is below i with a count at i of at least 4^i" is promoted.
 fn visit(
     rack: &mut [u8],
-    waiting: &mut [u8],
+    pending: &mut [u8],
     words: &[u32],
     w: usize,
     i: usize,
@@ -151,8 +151,8 @@ fn visit(
 ) -> Tally
     requires { ⌜ (Held (now rack)) × (Ordered (read (now rack))) ⌝ }
     requires { ⌜ (w < read (now rack) .n) × (i ≤ base .top) ⌝ }
-    requires { ⌜ (Waiting (now waiting) (read (now rack))) × (tally .draws ≤ 1000000) ⌝ }
-    ensures { λ r. ⌜ Left (visited base (now (words .entry)) i w (running (now (rack .entry)) tally)) (now (rack .exit)) (now (waiting .exit)) r ⌝ }
+    requires { ⌜ (HoldsPending (now pending) (read (now rack))) × (tally .draws ≤ 1000000) ⌝ }
+    ensures { λ r. ⌜ Left (visited base (now (words .entry)) i w (running (now (rack .entry)) tally)) (now (rack .exit)) (now (pending .exit)) r ⌝ }
 {
     if i < layout::rank(rack, w) as usize {
         return tally;
@@ -160,14 +160,14 @@ fn visit(
     if layout::phi(rack, w, i) < layout::threshold(i) {
         return tally;
     }
-    promote(rack, waiting, words, w, i, tally)
+    promote(rack, pending, words, w, i, tally)
 }
 
 // "Then the boards to which v owned links just after the fall are gone through by rising number": the row is walked as it is now, since
 // a vertex that has left it meanwhile stands at level i and would be passed over.
 fn scan(
     rack: &mut [u8],
-    waiting: &mut [u8],
+    pending: &mut [u8],
     words: &[u32],
     v: usize,
     i: usize,
@@ -175,14 +175,14 @@ fn scan(
 ) -> Tally
     requires { ⌜ (Held (now rack)) × (Ordered (read (now rack))) ⌝ }
     requires { ⌜ (v < read (now rack) .n) × (i ≤ base .top) × (RowBelow i v (read (now rack))) ⌝ }
-    requires { ⌜ (Waiting (now waiting) (read (now rack))) × (tally .draws ≤ 900000) ⌝ }
-    ensures { λ r. ⌜ Left (scanFrom base (now (words .entry)) i v (running (now (rack .entry)) tally)) (now (rack .exit)) (now (waiting .exit)) r ⌝ }
+    requires { ⌜ (HoldsPending (now pending) (read (now rack))) × (tally .draws ≤ 900000) ⌝ }
+    ensures { λ r. ⌜ Left (scanFrom base (now (words .entry)) i v (running (now (rack .entry)) tally)) (now (rack .exit)) (now (pending .exit)) r ⌝ }
 {
     let n = layout::size(rack);
     let mut t = tally;
     let mut w = layout::next_owned(rack, v, 0);
     while w < n {
-        t = visit(rack, waiting, words, w, i, t);
+        t = visit(rack, pending, words, w, i, t);
         w = layout::next_owned(rack, v, w + 1);
     }
     t
@@ -191,7 +191,7 @@ fn scan(
 // "Taking a waiting v at level i"
 fn take(
     rack: &mut [u8],
-    waiting: &mut [u8],
+    pending: &mut [u8],
     words: &[u32],
     v: usize,
     i: usize,
@@ -199,27 +199,27 @@ fn take(
 ) -> Tally
     requires { ⌜ (Held (now rack)) × (Ordered (read (now rack))) ⌝ }
     requires { ⌜ (v < read (now rack) .n) × (read (now rack) .mate v ≡ v) × (read (now rack) .rank v ≡ suc i) × (i ≤ base .top) ⌝ }
-    requires { ⌜ (Waiting (now waiting) (read (now rack))) × (Room 900000 900000 tally) ⌝ }
-    ensures { λ r. ⌜ Left (taken base (now (words .entry)) i v (running (now (rack .entry)) tally)) (now (rack .exit)) (now (waiting .exit)) r ⌝ }
+    requires { ⌜ (HoldsPending (now pending) (read (now rack))) × (Room 900000 900000 tally) ⌝ }
+    ensures { λ r. ⌜ Left (taken base (now (words .entry)) i v (running (now (rack .entry)) tally)) (now (rack .exit)) (now (pending .exit)) r ⌝ }
 {
     moves::hand_over(rack, v, i);
     let k = layout::degree(rack, v);
     if layout::threshold(i) as usize <= k {
-        return draw(rack, waiting, words, v, i, k, tally);
+        return draw(rack, pending, words, v, i, k, tally);
     }
     moves::fall(rack, v, i, k);
-    scan(rack, waiting, words, v, i, tally.fell())
+    scan(rack, pending, words, v, i, tally.fell())
 }
 
 // "take one of the highest level, lowest number first": one pass over the vertices that may be pending.
-fn pick(rack: &[u8], waiting: &[u8]) -> Choice
-    requires { ⌜ (Held (now rack)) × (Waiting (now waiting) (read (now rack))) ⌝ }
+fn pick(rack: &[u8], pending: &[u8]) -> Choice
+    requires { ⌜ (Held (now rack)) × (HoldsPending (now pending) (read (now rack))) ⌝ }
     ensures { λ r. ⌜ foundBy r ≡ picked (suc (base .top)) (read (now (rack .entry))) ⌝ }
 {
     let n = layout::size(rack);
     let mut best = 0;
     let mut at = 0;
-    let mut v = bitset::next(waiting, 0);
+    let mut v = bitset::next(pending, 0);
     while v < n {
         let r = layout::rank(rack, v);
         if best < r {
@@ -228,7 +228,7 @@ fn pick(rack: &[u8], waiting: &[u8]) -> Choice
                 at = v;
             }
         }
-        v = bitset::next(waiting, v + 1);
+        v = bitset::next(pending, v + 1);
     }
     if best == 0 {
         return Choice::Nothing;
@@ -237,18 +237,18 @@ fn pick(rack: &[u8], waiting: &[u8]) -> Choice
 }
 
 // "The settling: while any board waits, take one": never more takings than n times the number of levels from 0 on.
-pub fn settle(rack: &mut [u8], waiting: &mut [u8], words: &[u32], tally: Tally) -> Tally
+pub fn settle(rack: &mut [u8], pending: &mut [u8], words: &[u32], tally: Tally) -> Tally
     requires { ⌜ (Held (now rack)) × (Ordered (read (now rack))) ⌝ }
-    requires { ⌜ (Waiting (now waiting) (read (now rack))) × (Room 1 0 tally) ⌝ }
-    ensures { λ r. ⌜ Left (settled base (now (words .entry)) (running (now (rack .entry)) tally)) (now (rack .exit)) (now (waiting .exit)) r ⌝ }
+    requires { ⌜ (HoldsPending (now pending) (read (now rack))) × (Room 1 0 tally) ⌝ }
+    ensures { λ r. ⌜ Left (settled base (now (words .entry)) (running (now (rack .entry)) tally)) (now (rack .exit)) (now (pending .exit)) r ⌝ }
 {
     let mut left = layout::size(rack) * (layout::top() + 1);
     let mut t = tally;
     while 0 < left {
-        let Choice::At(i, v) = pick(rack, waiting) else {
+        let Choice::At(i, v) = pick(rack, pending) else {
             return t;
         };
-        t = take(rack, waiting, words, v, i, t);
+        t = take(rack, pending, words, v, i, t);
         left -= 1;
     }
     t

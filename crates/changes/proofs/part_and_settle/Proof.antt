@@ -8,8 +8,8 @@ use Rattle.model.specs.Bytes.{read}
 use Rattle.model.specs.Moves.{part}
 use Rattle.bitset.specs.Row.{inserted}
 use Rattle.moves.specs.Proper.{Ordered, Held}
-use Rattle.settling.specs.Runs.{Waiting}
-use Rattle.changes.proofs.Wholes.{parted-waiting, parted-next, parted-ran}
+use Rattle.settling.specs.Settling.{HoldsPending}
+use Rattle.changes.proofs.Wholes.{parted-holds, parted-next, parted-ran}
 use borrow.Author.Needs.{needs}
 use Rattle.changes.proofs.part_and_settle.Statement.{statement}
 use Rattle.changes.proofs.part_and_settle.Tie as tie
@@ -47,13 +47,13 @@ next : (c : tie.After-part) →
     let a = c .before .before .before .before .before .before .before .before .before .before .before .args in
     let w = c .before .before .before .insert2 .last .0 in
     (read (c .part .last .0) ≡ part (a .a) (read (a .rack .now)))
-    × (Held (c .part .last .0) × (Ordered (read (c .part .last .0)) × Waiting w (read (c .part .last .0))))
+    × (Held (c .part .last .0) × (Ordered (read (c .part .last .0)) × HoldsPending w (read (c .part .last .0))))
 next c =
     let a = c .before .before .before .before .before .before .before .before .before .before .before .args in
     let p = c .before .before .before .before .before .before .before .before .before .before .before .pre in
-    let w = parted-waiting (a .rack .now) (c .before .before .before .before .before .before .before .before .empty-row .result) (p .0) (a .a) (a .b) (p .1 .0) (p .1 .1) (p .1 .2) (row (c .before .before .before .before .before .before .before .before)) in
+    let w = parted-holds (a .rack .now) (c .before .before .before .before .before .before .before .before .empty-row .result) (p .0) (a .a) (a .b) (p .1 .0) (p .1 .1) (p .1 .2) (row (c .before .before .before .before .before .before .before .before)) in
     parted-next (a .rack .now) (c .part .last .0) _ (p .0) (a .a) (p .1 .0) (c .part .ensures)
-    (subst (λ (l : List ℕ). Waiting l (part (a .a) (read (a .rack .now))))
+    (subst (λ (l : List ℕ). HoldsPending l (part (a .a) (read (a .rack .now))))
     (sym (c .before .before .before .insert2 .ensures ∙ ap (λ (l : List ℕ). inserted l (a .b)) (c .before .before .before .before .before .before .insert .ensures))) w)
 
 settle-requires : tie.Need-settle-requires

@@ -5,8 +5,8 @@ use native.Mathlib.Omega.{arith}
 use lib.ListN.{length, length-replicate}
 use Rattle.model.specs.Bytes.{read}
 use Rattle.model.specs.Moves.{promote}
-use Rattle.settling.specs.Runs.{running, Room}
-use Rattle.changes.proofs.Chains.{waits-still, Next, promoted-next, promoted-ran}
+use Rattle.settling.specs.Settling.{running, Room}
+use Rattle.changes.proofs.Chains.{none-pending, Next, promoted-next, promoted-ran}
 use borrow.Author.Needs.{needs}
 use Rattle.changes.proofs.promote_and_settle.Statement.{statement}
 use Rattle.changes.proofs.promote_and_settle.Tie as tie
@@ -32,7 +32,7 @@ promote-requires c κs =
       (b .held, b .ordered),
       (
         (m .inside, m .low, m .level, m .some),
-        (waits-still (c .before .before .before .empty-row .result) (read (a .rack .now)) (row (c .before .before .before)) (b .still), omega (arith, c .new .ensures)),
+        (none-pending (c .before .before .before .empty-row .result) (read (a .rack .now)) (row (c .before .before .before)) (b .still), omega (arith, c .new .ensures)),
       ),
     )
 
@@ -51,7 +51,7 @@ next c =
 settle-requires : tie.Need-settle-requires
 settle-requires c κs =
     let n = next (c .before .before .before .before .before) in
-    ((n .0 .held, n .0 .ordered), (n .0 .waiting, n .1))
+    ((n .0 .held, n .0 .ordered), (n .0 .pends, n .1))
 
 same-length : tie.Need-same-length
 same-length c = search needs

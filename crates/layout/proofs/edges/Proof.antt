@@ -4,14 +4,14 @@ use Rattle.model.specs.Bytes.{edgesAt, twoAt}
 use Rattle.layout.proofs.edges.Statement.{statement}
 use Rattle.layout.proofs.edges.Tie as tie
 
-shared-slice-read-join : tie.Need-shared-slice-read-join
-shared-slice-read-join c = search needs
+shared-slice-read-two-bytes : tie.Need-shared-slice-read-two-bytes
+shared-slice-read-two-bytes c = search needs
 
-shared-slice-read-join-2 : tie.Need-shared-slice-read-join-2
-shared-slice-read-join-2 c = search needs
+shared-slice-read-two-bytes-2 : tie.Need-shared-slice-read-two-bytes-2
+shared-slice-read-two-bytes-2 c = search needs
 
-join-requires : tie.Need-join-requires
-join-requires c κs = search needs
+two-bytes-requires : tie.Need-two-bytes-requires
+two-bytes-requires c κs = search needs
 
 returns : tie.Need-returns
 unfolding edgesAt twoAt
@@ -19,4 +19,4 @@ returns c = search needs
 
 pub edges-spec : {M : Type 1} → statement M
 edges-spec =
-    tie.close (tie.spec shared-slice-read-join shared-slice-read-join-2 join-requires returns)
+    tie.close (tie.spec shared-slice-read-two-bytes shared-slice-read-two-bytes-2 two-bytes-requires returns)

@@ -10,17 +10,17 @@ mul-at c = search needs
 add-at : tie.Need-add-at
 add-at c = search needs
 
-shared-slice-read-join : tie.Need-shared-slice-read-join
-shared-slice-read-join c = search needs
+shared-slice-read-two-bytes : tie.Need-shared-slice-read-two-bytes
+shared-slice-read-two-bytes c = search needs
 
-add-join : tie.Need-add-join
-add-join c = search needs
+add-two-bytes : tie.Need-add-two-bytes
+add-two-bytes c = search needs
 
-shared-slice-read-join-2 : tie.Need-shared-slice-read-join-2
-shared-slice-read-join-2 c = search needs
+shared-slice-read-two-bytes-2 : tie.Need-shared-slice-read-two-bytes-2
+shared-slice-read-two-bytes-2 c = search needs
 
-join-requires : tie.Need-join-requires
-join-requires c κs = search needs
+two-bytes-requires : tie.Need-two-bytes-requires
+two-bytes-requires c κs = search needs
 
 returns : tie.Need-returns
 unfolding mateAt twoAt
@@ -32,8 +32,8 @@ mate-spec =
     (tie.spec
     mul-at
     add-at
-    shared-slice-read-join
-    add-join
-    shared-slice-read-join-2
-    join-requires
+    shared-slice-read-two-bytes
+    add-two-bytes
+    shared-slice-read-two-bytes-2
+    two-bytes-requires
     returns)

@@ -14,9 +14,9 @@ use Rattle.moves.proofs.rise.Tie as tie
 take-over-requires : tie.Need-take-over-requires
 take-over-requires c κs = c .before .before .pre
 
-lift-requires : tie.Need-lift-requires
+enter-requires : tie.Need-enter-requires
 unfolding tookOver reown
-lift-requires c κs =
+enter-requires c κs =
     let took = c .before .before .before in
     let a = took .before .before .before .args in
     let p = took .before .before .before .pre in
@@ -44,8 +44,8 @@ returns c =
     let t = tookOver (a .i) (a .u) s in
     let q = took-proper s (p .0 .proper) (a .i) (a .u) (p .1 .0 .0) in
     let r : read (took .take-over .last .0) ≡ t = reads-as _ t (took .take-over .ensures) q in
-    c .before .before .lift .ensures ∙ ap (λ (x : State). write (ranked (a .u) (suc (a .i)) x)) r
+    c .before .before .enter .ensures ∙ ap (λ (x : State). write (ranked (a .u) (suc (a .i)) x)) r
     ∙ ap write (rise-halves s (p .0 .proper) (a .i) (a .u))
 
 pub rise-spec : {M : Type 1} → statement M
-rise-spec = tie.close (tie.spec take-over-requires lift-requires same-length returns)
+rise-spec = tie.close (tie.spec take-over-requires enter-requires same-length returns)

@@ -11,7 +11,7 @@ use Rattle.text.proofs.Over.{back, put-as, put-kept, length-part}
 use Rattle.moves.proofs.Held.{held-sized}
 use Rattle.changes.specs.Sounded.{brought}
 use Rattle.changes.proofs.Wholes.{sounded-held}
-use Rattle.run.specs.Runs.{endingRoom}
+use Rattle.run.specs.Recording.{endingRoom}
 use Rattle.run.proofs.Turns.{ending-most, Going, going-start, Turn, turn-of, going-room, going-turn, going-end}
 use borrow.Author.Needs.{needs}
 use Rattle.run.proofs.put_changes.Statement.{statement}

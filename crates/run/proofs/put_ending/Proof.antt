@@ -11,7 +11,7 @@ use Rattle.record.proofs.Laws.{end-line}
 use Rattle.text.proofs.Over.{put-as, put-then, put-kept, length-part}
 use Rattle.trace.proofs.Bound.{pairs-most, end-most}
 use Rattle.trace.proofs.RecordFits.{valid-small}
-use Rattle.run.specs.Runs.{endingText}
+use Rattle.run.specs.Recording.{endingText}
 use borrow.Author.Needs.{needs}
 use Rattle.run.proofs.put_ending.Statement.{statement}
 use Rattle.run.proofs.put_ending.Tie as tie

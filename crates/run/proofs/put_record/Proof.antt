@@ -3,7 +3,7 @@ use Prim.Native.Nat.{_+_, _≤_}
 use native.Mathlib.Omega.{arith}
 use lib.ListN.{length}
 use Rattle.text.proofs.Over.{back, put-kept}
-use Rattle.run.specs.Runs.{Written}
+use Rattle.run.specs.Recording.{Written}
 use Rattle.run.proofs.Whole.{fresh, first-within, first-kept, ready, written, record-within}
 use borrow.Author.Needs.{needs}
 use Rattle.run.proofs.put_record.Statement.{statement}

@@ -2,7 +2,7 @@
 use mathlib.Core.Path.{sym, _∙_}
 use native.Mathlib.Omega.{arith}
 use Rattle.text.proofs.Over.{put-as}
-use Rattle.run.specs.Runs.{told}
+use Rattle.run.specs.Recording.{told}
 use Rattle.run.proofs.Once.{line-few, length-few, output-ran, output-back, put-front-again}
 use borrow.Author.Needs.{needs}
 use Rattle.run.proofs.show.Statement.{statement}

@@ -2,7 +2,7 @@
 use mathlib.Core.Path.{refl, sym, _∙_, subst}
 use mathlib.Core.Bool.{Bool}
 use native.Mathlib.Omega.{arith}
-use Rattle.run.specs.Runs.{Took, told}
+use Rattle.run.specs.Recording.{Took, told}
 use Rattle.run.proofs.Whole.{made-none, made-new, answer-of}
 use borrow.Author.Needs.{needs}
 use Rattle.run.proofs.taken.Statement.{statement}

@@ -1,6 +1,6 @@
 -- `settling::draw` meets its contract. Assumes nothing.
 use borrow.Author.Needs.{needs}
-use Rattle.settling.proofs.Written.{Drawing, drawing-of, lifted-marries, drawn-left}
+use Rattle.settling.proofs.Written.{Drawing, drawing-of, lifted-pairs, drawn-left}
 use Rattle.settling.proofs.draw.Statement.{statement}
 use Rattle.settling.proofs.draw.Tie as tie
 
@@ -18,8 +18,8 @@ lift-requires c κs =
     let a = drawing (c .before .before) .rising in
     ((a .held, a .ordered), (a .inside, a .low, a .level, start (c .before .before) .pre .1 .1 .1 .0 .wide))
 
-marry-requires : tie.Need-marry-requires
-marry-requires c κs = let l = c .before .before .before .before .before in lifted-marries (drawing (l .before .before .before)) (l .lift .ensures .0)
+pair-requires : tie.Need-pair-requires
+pair-requires c κs = let l = c .before .before .before .before .before in lifted-pairs (drawing (l .before .before .before)) (l .lift .ensures .0)
 
 drew-requires : tie.Need-drew-requires
 drew-requires c κs = search needs
@@ -35,7 +35,7 @@ returns c =
     let l = c .before .before .before .before .before .before .before .before .before in
     let y = l .before .before .before in
     drawn-left (drawing y) (l .lift .ensures .0) (start y .args .words .now) (start y .args .tally)
-    (start y .pre .1 .1 .1 .0) (y .choose .ensures .0) (l .lift .ensures .1) (c .before .before .before .marry .ensures) (c .drew .ensures)
+    (start y .pre .1 .1 .1 .0) (y .choose .ensures .0) (l .lift .ensures .1) (c .before .before .before .pair .ensures) (c .drew .ensures)
 
 pub draw-spec : {M : Type 1} → statement M
 draw-spec =
@@ -43,7 +43,7 @@ draw-spec =
     (tie.spec
     choose-requires
     lift-requires
-    marry-requires
+    pair-requires
     drew-requires
     same-length
     same-length-2

@@ -4,7 +4,7 @@ use native.Mathlib.Omega.{arith}
 use borrow.Author.Needs.{needs}
 use Rattle.model.specs.Bytes.{read}
 use Rattle.moves.proofs.Held.{held-sized, held-small}
-use Rattle.settling.proofs.Waits.{noted-free}
+use Rattle.settling.proofs.Pending.{noted-free}
 use Rattle.settling.proofs.Entries.{entry-free, entry-paired, entry-noted}
 use Rattle.settling.proofs.note_mate.Statement.{statement}
 use Rattle.settling.proofs.note_mate.Tie as tie
@@ -16,7 +16,7 @@ returns : tie.Need-returns
 returns c =
     let a = c .before .before .before .before .args in
     let p = c .before .before .before .before .pre in
-    sym (noted-free (read (a .rack .now)) (a .waiting .now) (a .v)
+    sym (noted-free (read (a .rack .now)) (a .pending .now) (a .v)
     (entry-free (a .rack .now) (p .0) (a .v) (p .1 .0) (c .before .mate .result) (c .before .mate .ensures) (c .if1 .taken)))
 
 cast-insert : tie.Need-cast-insert
@@ -37,7 +37,7 @@ returns-2 c =
     let a = c .before .before .before .before .before .before .before .before .args in
     let p = c .before .before .before .before .before .before .before .before .pre in
     c .before .before .insert .ensures
-    ∙ entry-noted (a .rack .now) (p .0) (a .v) (p .1 .0) (a .waiting .now) (c .before .before .before .before .before .mate .result)
+    ∙ entry-noted (a .rack .now) (p .0) (a .v) (p .1 .0) (a .pending .now) (c .before .before .before .before .before .mate .result)
     (c .before .before .before .before .before .mate .ensures) (c .before .before .before .before .if1 .left)
 
 pub note-mate-spec : {M : Type 1} → statement M

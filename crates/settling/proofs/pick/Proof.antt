@@ -12,10 +12,10 @@ use Rattle.settling.proofs.pick.Statement.{statement}
 use Rattle.settling.proofs.pick.Tie as tie
 
 abbrev Inv-loop : tie.InvT-loop
-Inv-loop rack waiting n best₀ at₀ v₀ best at v = Best (read rack) best at v
+Inv-loop rack pending n best₀ at₀ v₀ best at v = Best (read rack) best at v
 
 abbrev μ-loop : tie.MeasureT-loop
-μ-loop rack waiting n best₀ at₀ v₀ best at v = n - v
+μ-loop rack pending n best₀ at₀ v₀ best at v = n - v
 
 size-requires : tie.Need-size-requires Inv-loop μ-loop
 size-requires c κs = held-sized (c .before .before .pre .0)
@@ -54,12 +54,12 @@ loop-less c = omega (arith, c .next2 .ensures .after, c .before .before .before 
 turn : (c : tie.After-next2 Inv-loop μ-loop) →
     let l = c .before .before .before .before in
     let a = l .before .before .before .before .before .args in
-    Turn (a .rack .now) (a .waiting .now) (l .loop .best) (l .loop .at) (l .loop .v) (c .next2 .result)
+    Turn (a .rack .now) (a .pending .now) (l .loop .best) (l .loop .at) (l .loop .v) (c .next2 .result)
 turn c =
     let d = c .before .before .before in
     record {
       held = held d;
-      waiting = d .before .before .before .before .before .before .pre .1;
+      pends = d .before .before .before .before .before .before .pre .1;
       found = d .before .loop .inv;
       inside = below d;
       next = c .next2 .ensures;

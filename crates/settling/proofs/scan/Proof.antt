@@ -11,10 +11,10 @@ use Rattle.settling.proofs.scan.Statement.{statement}
 use Rattle.settling.proofs.scan.Tie as tie
 
 abbrev Inv-loop : tie.InvT-loop
-Inv-loop rack₀ waiting₀ words v i n t₀ w₀ rack waiting t w = Scanning words i v rack₀ t₀ rack waiting t w
+Inv-loop rack₀ pending₀ words v i n t₀ w₀ rack pending t w = Scanning words i v rack₀ t₀ rack pending t w
 
 abbrev μ-loop : tie.MeasureT-loop
-μ-loop rack₀ waiting₀ words v i n t₀ w₀ rack waiting t w = n - w
+μ-loop rack₀ pending₀ words v i n t₀ w₀ rack pending t w = n - w
 
 begun : (c : tie.Start Inv-loop μ-loop) → Begun (c .args .words .now) (c .args .i) (c .args .v) (c .args .rack .now) (c .args .tally)
 begun c = record { held = c .pre .0 .0; ordered = c .pre .0 .1; inside = c .pre .1 .0 .0; level = c .pre .1 .0 .1; row = c .pre .1 .0 .2 }

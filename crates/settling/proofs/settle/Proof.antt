@@ -9,7 +9,7 @@ use Rattle.model.specs.State.{base}
 use Rattle.model.specs.Bytes.{read}
 use Rattle.model.specs.Moves.{pick, found}
 use Rattle.moves.proofs.Held.{held-sized}
-use Rattle.settling.specs.Runs.{running, foundBy}
+use Rattle.settling.specs.Settling.{running, foundBy}
 use Rattle.settling.proofs.SettleLoop.{
   taking-of,
   takings,
@@ -25,10 +25,10 @@ use Rattle.settling.proofs.settle.Statement.{statement}
 use Rattle.settling.proofs.settle.Tie as tie
 
 abbrev Inv-loop : tie.InvT-loop
-Inv-loop rack₀ waiting₀ words left₀ t₀ rack waiting left t = Going words (running rack₀ t₀) rack waiting left t
+Inv-loop rack₀ pending₀ words left₀ t₀ rack pending left t = Going words (running rack₀ t₀) rack pending left t
 
 abbrev μ-loop : tie.MeasureT-loop
-μ-loop rack₀ waiting₀ words left₀ t₀ rack waiting left t = left
+μ-loop rack₀ pending₀ words left₀ t₀ rack pending left t = left
 
 size-requires : tie.Need-size-requires Inv-loop μ-loop
 size-requires c κs = held-sized (c .before .before .before .before .pre .0 .0)
@@ -51,7 +51,7 @@ loop-holds c =
     going-start _ _ _ _ _ (p .0 .0) (p .0 .1) (p .1 .0) (p .1 .1) (takings (p .0 .0) _ _ (c .before .size .ensures) (c .top .ensures))
 
 pick-requires : tie.Need-pick-requires Inv-loop μ-loop
-pick-requires c κs = let g = c .before .before .before .loop .inv in (g .held, g .waiting)
+pick-requires c κs = let g = c .before .before .before .loop .inv in (g .held, g .pends)
 
 enum-known-i : tie.Need-enum-known-i Inv-loop μ-loop
 enum-known-i c = search needs
@@ -67,8 +67,8 @@ rack-length c = held-sized (c .loop .inv .held) ∙ sym (held-sized (c .before .
 
 row-length : (c : tie.At-loop Inv-loop μ-loop) →
     let a = c .before .before .before .before .before .before .before .args in
-    length (c .loop .waiting) ≡ length (a .waiting .now)
-row-length c = c .loop .inv .waiting .wide ∙ sym (c .before .before .before .before .before .before .before .pre .1 .0 .wide)
+    length (c .loop .pending) ≡ length (a .pending .now)
+row-length c = c .loop .inv .pends .wide ∙ sym (c .before .before .before .before .before .before .before .pre .1 .0 .wide)
 
 same-length : tie.Need-same-length Inv-loop μ-loop
 same-length c = rack-length (c .before .before .before .before .before .before)
@@ -92,7 +92,7 @@ take-requires c κs =
     let d = c .before .before .before in
     let g = d .before .before .before .before .before .before .loop .inv in
     let a = taking-of _ _ _ (g .held .proper) (picked d) in
-    ((g .held, g .ordered), ((a .inside, a .free, a .rank, a .level), (g .waiting, going-room g)))
+    ((g .held, g .ordered), ((a .inside, a .free, a .rank, a .level), (g .pends, going-room g)))
 
 -- a taking was left
 some-left : (c : tie.After-i Inv-loop μ-loop) → 1 ≤ c .before .before .before .before .before .before .loop .left

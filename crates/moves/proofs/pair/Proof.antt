@@ -1,4 +1,4 @@
--- `moves::marry` meets its contract: the entries of both ends are set. Assumes nothing.
+-- `moves::pair` meets its contract: the entries of both ends are set. Assumes nothing.
 use borrow.Author.Needs.{needs}
 use mathlib.Core.Path.{ap, _∙_}
 use mathlib.Core.List.{List}
@@ -8,8 +8,8 @@ use Rattle.model.specs.Bytes.{read}
 use Rattle.layout.specs.Setters.{setMate}
 use Rattle.moves.proofs.Held.{held-sized, held-small}
 use Rattle.moves.proofs.Pairs.{marry-image}
-use Rattle.moves.proofs.marry.Statement.{statement}
-use Rattle.moves.proofs.marry.Tie as tie
+use Rattle.moves.proofs.pair.Statement.{statement}
+use Rattle.moves.proofs.pair.Tie as tie
 
 cast-set-mate : tie.Need-cast-set-mate
 cast-set-mate c = omega (arith, c .before .before .pre .0 .proper .few)
@@ -36,8 +36,8 @@ returns c =
     ∙ ap (λ (bs : List ℕ). setMate (setMate bs (s .args .u) (s .args .y)) (s .args .y) (s .args .u)) (s .pre .0 .written)
     ∙ marry-image (read (s .args .rack .now)) (s .pre .0 .proper) (s .args .u) (s .args .y) (s .pre .1 .0) (s .pre .1 .1) (s .pre .1 .2)
 
-pub marry-spec : {M : Type 1} → statement M
-marry-spec =
+pub pair-spec : {M : Type 1} → statement M
+pair-spec =
     tie.close
     (tie.spec
     cast-set-mate

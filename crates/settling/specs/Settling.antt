@@ -20,12 +20,12 @@ abbrev pub running : List ℕ → Tally → Run
 running bs t = record { state = read bs; news = []; draws = t .draws; falls = t .falls }
 
 -- the row holds every pending vertex, but perhaps u
-pub record WaitingBut (u : ℕ) (row : List ℕ) (s : State) : Type 0 where
+pub record HoldsPendingBut (u : ℕ) (row : List ℕ) (s : State) : Type 0 where
   pub wide : length row ≡ 32
   pub holds : (v i : ℕ) → v < s .n → v ≢ u → T (pending s i v) → T (member row v)
 
 -- the row holds every pending vertex
-pub record Waiting (row : List ℕ) (s : State) : Type 0 where
+pub record HoldsPending (row : List ℕ) (s : State) : Type 0 where
   pub wide : length row ≡ 32
   pub holds : (v i : ℕ) → v < s .n → T (pending s i v) → T (member row v)
 
@@ -43,7 +43,7 @@ pub record Left (r : Run) (bs row : List ℕ) (t : Tally) : Type 0 where
   pub rack : bs ≡ write (r .state)
   pub draws : t .draws ≡ r .draws
   pub falls : t .falls ≡ r .falls
-  pub waiting : Waiting row (r .state)
+  pub pends : HoldsPending row (r .state)
 
 -- a vertex's turn in the scan after a fall
 unfoldable pub visited : Rules → List ℕ → ℕ → ℕ → Run → Run

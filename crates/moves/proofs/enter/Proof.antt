@@ -1,4 +1,4 @@
--- `moves::lift` meets its contract: the lowered counts, u's own counts and its rank are those of the state with u at rank i + 1. Assumes
+-- `moves::enter` meets its contract: the lowered counts, u's own counts and its rank are those of the state with u at rank i + 1. Assumes
 -- nothing.
 use mathlib.Core.Path.{ap, _∙_}
 use mathlib.Core.List.{List}
@@ -10,9 +10,9 @@ use Rattle.model.specs.Bytes.{read}
 use Rattle.layout.specs.Setters.{setRank}
 use Rattle.moves.specs.Counts.{zeroedBelow}
 use Rattle.moves.proofs.Held.{held-sized, held-small}
-use Rattle.moves.proofs.RankSteps.{lift-bytes}
-use Rattle.moves.proofs.lift.Statement.{statement}
-use Rattle.moves.proofs.lift.Tie as tie
+use Rattle.moves.proofs.RankSteps.{enter-bytes}
+use Rattle.moves.proofs.enter.Statement.{statement}
+use Rattle.moves.proofs.enter.Tie as tie
 
 lower-counts-requires : tie.Need-lower-counts-requires
 lower-counts-requires c κs = c .before .before .pre
@@ -55,10 +55,10 @@ returns c =
     let last : List ℕ → List ℕ = λ bs. setRank bs (a .u) (a .i + 1) in
     c .before .before .set-rank .ensures
     ∙ ap last (zeroed .zero-counts .ensures ∙ ap (λ (bs : List ℕ). zeroedBelow bs (a .u) (a .i + 1)) (lowered .lower-counts .ensures))
-    ∙ lift-bytes (read (a .rack .now)) (p .0 .proper) (a .i) (a .u) (p .1 .0 .0) (p .1 .0 .2) (p .1 .1) (p .1 .0 .1)
+    ∙ enter-bytes (read (a .rack .now)) (p .0 .proper) (a .i) (a .u) (p .1 .0 .0) (p .1 .0 .2) (p .1 .1) (p .1 .0 .1)
 
-pub lift-spec : {M : Type 1} → statement M
-lift-spec =
+pub enter-spec : {M : Type 1} → statement M
+enter-spec =
     tie.close
     (tie.spec
     lower-counts-requires

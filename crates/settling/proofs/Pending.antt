@@ -15,7 +15,7 @@ use Rattle.theory.proofs.Fits.{lift-is, marry-is}
 use Rattle.theory.proofs.Takings.{pending-of, pending-is}
 use Rattle.moves.specs.Proper.{Proper, ranked}
 use Rattle.model.proofs.Lists.{upd-other}
-use Rattle.settling.specs.Runs.{WaitingBut, Waiting, noted}
+use Rattle.settling.specs.Settling.{HoldsPendingBut, HoldsPending, noted}
 
 -- A vertex's mate is put in.
 module _ (s : State) (row : List ℕ) (v : ℕ) where
@@ -46,13 +46,13 @@ module _ (s : State) (row : List ℕ) (v : ℕ) where
     ]
   ]
 
-pub waits-but : {row : List ℕ} {s : State} (u : ℕ) → Waiting row s → WaitingBut u row s
-waits-but u w = record { wide = w .wide; holds = λ v i l d t. w .holds v i l t }
+pub pending-but : {row : List ℕ} {s : State} (u : ℕ) → HoldsPending row s → HoldsPendingBut u row s
+pending-but u w = record { wide = w .wide; holds = λ v i l d t. w .holds v i l t }
 
 -- u is parted and rises: only its mate and itself may have come to be pending
-pub waits-risen : (s : State) → Proper s → (row : List ℕ) (i u : ℕ) → u < s .n → Waiting row s → WaitingBut u (noted s row u) (rise i u (part u s))
+pub pending-risen : (s : State) → Proper s → (row : List ℕ) (i u : ℕ) → u < s .n → HoldsPending row s → HoldsPendingBut u (noted s row u) (rise i u (part u s))
 unfolding rise part
-waits-risen s p row i u l w = record {
+pending-risen s p row i u l w = record {
   wide = noted-wide s row u ∙ w .wide;
   holds = λ v j b d t.
       let m : s .mate u < 256 = omega (arith, p .few, p .mates u l) in
@@ -65,10 +65,10 @@ waits-risen s p row i u l w = record {
 }
 
 -- y is parted, rises and is u's mate: then neither is pending, but y's former mate may be
-pub waits-drawn : (s : State) → Proper s → (row : List ℕ) (i u y : ℕ) → u ≢ y → y < s .n → WaitingBut u row s
-    → Waiting (noted s row y) (marry u y (rise i y (part y s)))
+pub pending-drawn : (s : State) → Proper s → (row : List ℕ) (i u y : ℕ) → u ≢ y → y < s .n → HoldsPendingBut u row s
+    → HoldsPending (noted s row y) (marry u y (rise i y (part y s)))
 unfolding rise part marry
-waits-drawn s p row i u y ne l w = record {
+pending-drawn s p row i u y ne l w = record {
   wide = noted-wide s row y ∙ w .wide;
   holds = λ v j b t.
       let t₂ : State = marry u y (rise i y (part y s)) in
@@ -86,14 +86,14 @@ waits-drawn s p row i u y ne l w = record {
 }
 
 -- a hand-over changes no mate and no rank
-pub waits-handed : {row : List ℕ} (s : State) (i v : ℕ) → Waiting row s → Waiting row (handOver i v s)
+pub pending-handed : {row : List ℕ} (s : State) (i v : ℕ) → HoldsPending row s → HoldsPending row (handOver i v s)
 unfolding handOver pending free
-waits-handed s i v w = record { wide = w .wide; holds = w .holds }
+pending-handed s i v w = record { wide = w .wide; holds = w .holds }
 
 -- v was pending before its fall
-pub waits-fallen : {row : List ℕ} (s : State) (i v : ℕ) → v < s .n → s .mate v ≡ v → s .rank v ≡ suc i → Waiting row s → Waiting row (ranked v i s)
+pub pending-fallen : {row : List ℕ} (s : State) (i v : ℕ) → v < s .n → s .mate v ≡ v → s .rank v ≡ suc i → HoldsPending row s → HoldsPending row (ranked v i s)
 unfolding ranked
-waits-fallen {row} s i v l f e w = record {
+pending-fallen {row} s i v l f e w = record {
   wide = w .wide;
   holds = λ x j b t.
       let g = pending-is (ranked v i s) j x t in
