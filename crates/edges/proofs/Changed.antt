@@ -8,7 +8,7 @@ use lib.Dec.{T, eqb, eqb→eq, not-T, T-not}
 use Rattle.model.specs.State.{State, edge}
 use Rattle.model.specs.Change.{isEdge, withoutEdge, reown, owning, addEdge}
 use Rattle.model.proofs.Tests.{le?, holds?, bool-ext, T-true, T-false, true-T, eqb-yes, leb-yes, leb-no, and-intro, and-left, and-right, or-cases, or-left, or-right}
-use Rattle.theory.proofs.EdgeSets.{edge-is, is-edge, without-turn}
+use Rattle.theory.proofs.EdgeSets.{edge-is, is-edge}
 use Rattle.moves.specs.Proper.{Proper}
 use Rattle.moves.proofs.Edges.{edge-cases, edge-of, edge-back, edge-turn}
 use Rattle.edges.proofs.Joined.{Joined, joined-turn}
@@ -196,18 +196,14 @@ module _ (a b : ℕ) (s : State) where
       turned v w (inl k) = is-edge a b v w (inr (k .1, k .0))
       turned v w (inr k) = is-edge a b v w (inl (k .1, k .0))
 
-  -- its owners are those of s, but for the one bit of the edge's owner
-  pub drop-bit : dropEdge a b s .owns a b ≡ false
-  drop-bit = T-false (λ t. drop-other a b t (is-edge a b a b (inl (refl, refl))))
+  -- its owners are those of s, but for the bits of both ends
+  pub drop-here : dropEdge a b s .owns a b ≡ false
+  drop-here = T-false (λ t. drop-other a b t (is-edge a b a b (inl (refl, refl))))
 
-  pub drop-rest : Proper s → T (s .owns a b) → (v w : ℕ) → (v ≡ a → w ≢ b) → dropEdge a b s .owns v w ≡ s .owns v w
-  drop-rest p o v w d =
+  pub drop-back : dropEdge a b s .owns b a ≡ false
+  drop-back = T-false (λ t. drop-other b a t (is-edge a b b a (inr (refl, refl))))
+
+  pub drop-rest : (v w : ℕ) → (v ≡ a → w ≢ b) → (v ≡ b → w ≢ a) → dropEdge a b s .owns v w ≡ s .owns v w
+  drop-rest v w d e =
       bool-ext (dropEdge a b s .owns v w) (s .owns v w) (drop-old v w)
-      (λ t. drop-keep v w t (λ h. elim (edge-is a b v w h) [
-        | inl k ↦ d (k .0) (k .1)
-        | inr k ↦ p .owned-once a b o (subst (λ (x : ℕ). T (s .owns x a)) (k .0) (subst (λ (x : ℕ). T (s .owns v x)) (k .1) t))
-      ]))
-
--- the edge a-b is the edge b-a
-pub drop-turn : (a b : ℕ) (s : State) → dropEdge a b s ≡ dropEdge b a s
-drop-turn a b s = ap (reown s) (without-turn (s .owns) a b)
+      (λ t. drop-keep v w t (λ h. elim (edge-is a b v w h) [ inl k ↦ d (k .0) (k .1) | inr k ↦ e (k .0) (k .1) ]))

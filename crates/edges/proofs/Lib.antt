@@ -2,8 +2,8 @@
 pub mod Joined
 pub mod Changed
 pub mod Shifted
-pub mod Raised
 pub mod Stages
+pub mod EdgeSteps
 pub mod Adding
 pub mod Dropping
 pub mod Search

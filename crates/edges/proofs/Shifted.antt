@@ -2,13 +2,18 @@
 use mathlib.Core.Path.{_≡_, refl, sym, ap, _∙_}
 use mathlib.Core.Logic.{_≢_, _⊎_, inl, inr}
 use mathlib.Core.Bool.{true, false}
-use Prim.Native.Nat.{ℕ, suc, _+_, _-_, _≤_, _<_}
+use Prim.Native.Nat.{ℕ, suc, _+_, _≤_, _<_}
 use native.Mathlib.Omega.{arith}
+use mathlib.Core.List.{List}
 use lib.Dec.{ltb}
 use Rattle.model.specs.Counting.{upd}
 use Rattle.model.specs.State.{State, phi}
+use Rattle.model.specs.Bytes.{rankAt, read}
 use Rattle.model.proofs.Tests.{eq?, le?, leb-yes, leb-no}
 use Rattle.model.proofs.Lists.{upd-same, upd-other}
+use Rattle.moves.specs.Proper.{Held}
+use Rattle.moves.specs.Counts.{less}
+use Rattle.moves.proofs.Held.{held-rank}
 use Rattle.edges.proofs.Joined.{Joined, joined-turn, phi-more, phi-still, phi-other}
 
 -- j is the higher of the ranks of a and b
@@ -16,6 +21,14 @@ pub record Higher (a b j : ℕ) (s : State) : Type 0 where
   pub a-low : s .rank a ≤ j
   pub b-low : s .rank b ≤ j
   pub least : (x : ℕ) → s .rank a ≤ x → s .rank b ≤ x → j ≤ x
+
+-- the higher of the rank bytes, as the code finds it
+pub higher-of : {bs : List ℕ} → Held bs → (a b : ℕ) → a < 256 → b < 256 → {x y r : ℕ} → x ≡ rankAt bs a → y ≡ rankAt bs b
+    → (x ≤ r) × (y ≤ r) × ((z : ℕ) → x ≤ z → y ≤ z → r ≤ z) → Higher a b r (read bs)
+higher-of h a b l k e f m =
+    let c = held-rank h a l in
+    let d = held-rank h b k in
+    record { a-low = omega (arith, m .0); b-low = omega (arith, m .1); least = λ z p q. m .2 z (omega arith) (omega arith) }
 
 -- at a and b the counts of t are δ of those of s from level j on; all others are the same
 pub record Shifted (a b j : ℕ) (δ : ℕ → ℕ) (s t : State) : Type 0 where
@@ -50,7 +63,7 @@ gained a b j s t J h =
       rest = phi-other a b s t J;
     }
 
-pub lost : (a b j : ℕ) (s t : State) → Shifted a b j suc t s → Shifted a b j (λ x. x - 1) s t
+pub lost : (a b j : ℕ) (s t : State) → Shifted a b j suc t s → Shifted a b j less s t
 lost a b j s t g = record {
   apart = g .apart;
   on-a = λ x l. omega (arith, g .on-a x l);

@@ -3,6 +3,7 @@
 use mathlib.Core.Path.{_≡_, refl, sym, ap, _∙_}
 use mathlib.Core.Logic.{_≢_}
 use mathlib.Core.Bool.{Bool, true, false}
+use mathlib.Core.List.{List}
 use Prim.Native.Nat.{ℕ, _<_}
 use lib.Dec.{eqb}
 use Rattle.model.specs.State.{State, phi, edges}
@@ -10,24 +11,14 @@ use Rattle.model.specs.Bytes.{noMate, edgesAt, rankAt, phiAt, Fields, image, ma
 use Rattle.model.proofs.Fields.{image-length, edges-image, rank-image, phi-image}
 use Rattle.layout.specs.Setters.{Sized, setEdges, own, disown}
 use Rattle.layout.proofs.Images.{image-ext, withEdges, withOwns, setEdges-image, own-image, disown-image}
+use Rattle.layout.proofs.Tables.{entry-is}
 use Rattle.moves.specs.Counts.{withCounts}
 use Rattle.moves.proofs.Owning.{ownersOf}
-use Rattle.edges.proofs.Raised.{entry-is}
 use Rattle.edges.proofs.Shifted.{both, both-held, half}
 
--- g is the owners of s, but for the bit y
-owners-ext : (s : State) (o e : ℕ) (y : Bool) (g : ℕ → ℕ → Bool) → g o e ≡ y → ((v w : ℕ) → (v ≡ o → w ≢ e) → g v w ≡ s .owns v w)
-    → image (withOwns (fieldsOf s) o e y) ≡ image (ownersOf s g)
-unfolding withOwns ownersOf fieldsOf
-owners-ext s o e y g on off =
-    image-ext (withOwns (fieldsOf s) o e y) (ownersOf s g) (record {
-      n = refl;
-      edges = refl;
-      rank = λ v l. refl;
-      mate = λ v l. refl;
-      phi = λ v x l k. refl;
-      owns = λ v w l k. sym (entry-is (s .owns) g o e y v w on (off v w));
-    })
+-- the owners of fields, place by place
+owners-ext : (s : State) (F : Fields) (g : ℕ → ℕ → Bool) → F ≡ ownersOf s (F .owns) → ((v w : ℕ) → F .owns v w ≡ g v w) → image F ≡ image (ownersOf s g)
+owners-ext s F g e f = ap image (e ∙ ap (ownersOf s) (λ i v w. f v w i))
 
 -- the stages from s to t
 unfoldable pub turned : State → State → Fields
@@ -39,15 +30,22 @@ halfway a s t = withCounts (turned s t) (half a s t)
 unfoldable pub counted : State → State → Fields
 counted s t = withCounts (turned s t) (both s t)
 
--- the owner's bit, set or cleared
-module _ (s t : State) (o e : ℕ) (x : o < 256) (y : e < 256) (off : (v w : ℕ) → (v ≡ o → w ≢ e) → t .owns v w ≡ s .owns v w) where
-  pub own-turned : t .owns o e ≡ true → own (write s) o e ≡ image (turned s t)
-  unfolding write fieldsOf turned
-  own-turned on = own-image (fieldsOf s) o e x y ∙ owners-ext s o e true (t .owns) on off
+-- the owner's bit set, and both ends' bits cleared
+module _ (s t : State) (o e : ℕ) (x : o < 256) (y : e < 256) where
+  pub own-turned : ((v w : ℕ) → (v ≡ o → w ≢ e) → t .owns v w ≡ s .owns v w) → t .owns o e ≡ true → own (write s) o e ≡ image (turned s t)
+  unfolding write fieldsOf turned withOwns ownersOf
+  own-turned off on =
+      own-image (fieldsOf s) o e x y
+      ∙ owners-ext s (withOwns (fieldsOf s) o e true) (t .owns) refl (λ v w. sym (entry-is (s .owns) o e true (t .owns) v w on (off v w)))
 
-  pub disown-turned : t .owns o e ≡ false → disown (write s) o e ≡ image (turned s t)
-  unfolding write fieldsOf turned
-  disown-turned on = disown-image (fieldsOf s) o e x y ∙ owners-ext s o e false (t .owns) on off
+  pub disown-turned : ((v w : ℕ) → (v ≡ o → w ≢ e) → (v ≡ e → w ≢ o) → t .owns v w ≡ s .owns v w) → t .owns o e ≡ false
+      → t .owns e o ≡ false → disown (disown (write s) o e) e o ≡ image (turned s t)
+  unfolding write fieldsOf turned withOwns ownersOf
+  disown-turned off on back =
+      let once : Fields = withOwns (fieldsOf s) o e false in
+      ap (λ (bs : List ℕ). disown bs e o) (disown-image (fieldsOf s) o e x y) ∙ disown-image once e o y x
+      ∙ owners-ext s (withOwns once e o false) (t .owns) refl
+      (λ v w. sym (entry-is (once .owns) e o false (t .owns) v w back (λ d. entry-is (s .owns) o e false (t .owns) v w on (λ c. off v w c d))))
 
 -- what the stages hold
 module _ (s t : State) where

@@ -2,33 +2,19 @@
 ghost use mathlib.Core.Path.{_≡_};
 ghost use mathlib.Core.Bool.{true, false};
 ghost use mathlib.Core.Logic.{_≢_};
-ghost use Prim.Native.Nat.{ℕ, suc, _+_, _<_, _≤_};
+ghost use Prim.Native.Nat.{suc, _<_, _≤_, ℕ};
 ghost use Rattle.model.specs.State.{base, edge};
-ghost use Rattle.model.specs.Bytes.{most as mostOf, phiAt, read, write};
+ghost use Rattle.model.specs.Bytes.{read, write};
 ghost use Rattle.model.specs.Change.{addEdge as edgeAdded, reown, withoutEdge, riser as riserOf};
 ghost use Rattle.layout.specs.Setters.{Sized};
 ghost use Rattle.moves.specs.Proper.{Held};
-ghost use Rattle.edges.specs.Steps.{raisedFrom, reachedBy};
+ghost use Rattle.moves.specs.Counts.{less};
+ghost use Rattle.edges.specs.Steps.{Countable, edgeCounted, reachedBy};
 
 // The level that a count reaches, with the vertex that rises to it, or that none is reached.
 pub enum Reached {
     At(usize, usize),
     Never,
-}
-
-// The counts of w gain 1 at the k levels from j on.
-fn raise(rack: &mut [u8], w: usize, j: usize, k: usize)
-    requires { ⌜ Sized (now rack) ⌝ }
-    requires { ⌜ (w < mostOf) × (j + k ≤ 4) ⌝ }
-    requires { ⌜ ((x : ℕ) → j ≤ x → x < j + k → phiAt (now rack) w x < 255) ⌝ }
-    ensures { λ _. ⌜ now (rack .exit) ≡ raisedFrom (now (rack .entry)) w j k ⌝ }
-{
-    let mut x = 0;
-    while x < k {
-        let c = layout::phi(rack, w, j + x);
-        layout::set_phi(rack, w, j + x, c + 1);
-        x += 1;
-    }
 }
 
 // The higher of two ranks: from that level on, the ends of an edge count each other.
@@ -39,6 +25,32 @@ fn higher(x: u8, y: u8) -> usize
         return y as usize;
     }
     x as usize
+}
+
+// The edge a-b counts from level j on: for both its ends, and in the number of edges.
+fn count_edge(rack: &mut [u8], a: usize, b: usize, j: usize)
+    requires { ⌜ Sized (now rack) ⌝ }
+    requires { ⌜ Countable (λ m x. x < m) suc (now rack) a b j ⌝ }
+    ensures { λ _. ⌜ now (rack .exit) ≡ edgeCounted suc (now (rack .entry)) a b j ⌝ }
+{
+    let k = layout::top() + 1 - j;
+    moves::raise(rack, a, j, k);
+    moves::raise(rack, b, j, k);
+    let m = layout::edges(rack);
+    layout::set_edges(rack, m + 1);
+}
+
+// The edge a-b, which counted from level j on, no longer counts.
+fn uncount_edge(rack: &mut [u8], a: usize, b: usize, j: usize)
+    requires { ⌜ Sized (now rack) ⌝ }
+    requires { ⌜ Countable (λ m x. 1 ≤ x) less (now rack) a b j ⌝ }
+    ensures { λ _. ⌜ now (rack .exit) ≡ edgeCounted less (now (rack .entry)) a b j ⌝ }
+{
+    let k = layout::top() + 1 - j;
+    moves::lower(rack, a, j, k);
+    moves::lower(rack, b, j, k);
+    let m = layout::edges(rack);
+    layout::set_edges(rack, m - 1);
 }
 
 // "Add: the owner is the end of higher level, on equal levels the lower number": a is the lower number.
@@ -54,31 +66,19 @@ pub fn add_edge(rack: &mut [u8], a: usize, b: usize)
     } else {
         layout::own(rack, b, a);
     }
-    let j = higher(ra, rb);
-    let k = layout::top() + 1 - j;
-    raise(rack, a, j, k);
-    raise(rack, b, j, k);
-    let m = layout::edges(rack);
-    layout::set_edges(rack, m + 1);
+    count_edge(rack, a, b, higher(ra, rb));
 }
 
-// "Drop: remove the link."
+// "Drop: remove the link.": whichever end owns it.
 pub fn drop_edge(rack: &mut [u8], a: usize, b: usize)
     requires { ⌜ Held (now rack) ⌝ }
     requires { ⌜ (a < read (now rack) .n) × (b < read (now rack) .n) × (a ≢ b) × (edge (read (now rack)) a b ≡ true) ⌝ }
     ensures { λ _. ⌜ now (rack .exit) ≡ write (reown (read (now (rack .entry))) (withoutEdge (read (now (rack .entry)) .owns) a b)) ⌝ }
 {
-    if layout::owns(rack, a, b) {
-        layout::disown(rack, a, b);
-    } else {
-        layout::disown(rack, b, a);
-    }
     let j = higher(layout::rank(rack, a), layout::rank(rack, b));
-    let k = layout::top() + 1 - j;
-    moves::lower(rack, a, j, k);
-    moves::lower(rack, b, j, k);
-    let m = layout::edges(rack);
-    layout::set_edges(rack, m - 1);
+    layout::disown(rack, a, b);
+    layout::disown(rack, b, a);
+    uncount_edge(rack, a, b, j);
 }
 
 // "The search for a rise stops at the first level, from 3 downwards to one above both ends, that either end's count reaches. [..] If both

@@ -1,6 +1,7 @@
 -- The laws of the rack's fields that callers cite: rows as parts of the bytes, and images of fields.
 pub mod Parts
 pub mod Pieces
+pub mod Tables
 pub mod Images
 pub mod Cleared
 pub mod Said

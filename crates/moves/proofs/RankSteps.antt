@@ -10,10 +10,10 @@ use Rattle.model.specs.Bytes.{image, mateEntry, fieldsOf, write}
 use Rattle.layout.specs.Setters.{setRank, setPhi}
 use Rattle.layout.proofs.Images.{withRank, setRank-image}
 use Rattle.moves.specs.Proper.{Proper, ranked, RowBelow}
-use Rattle.moves.specs.Counts.{withCounts, zeroedBelow, loweredCounts, raisedCounts}
+use Rattle.moves.specs.Counts.{withCounts, recounted, none, loweredCounts, raisedCounts}
 use Rattle.moves.proofs.Keeps.{ranked-proper}
 use Rattle.moves.proofs.Recount.{phi-fits, enter-own, enter-phi, fall-own, fall-phi}
-use Rattle.moves.proofs.CountSteps.{setCount-image, zeroed-image}
+use Rattle.moves.proofs.CountSteps.{setCount-image, recounted-image}
 
 -- a new rank, where the counts are those of the new rank already
 ranked-image : (s : State) (v x : ℕ) → v < 256
@@ -23,15 +23,15 @@ ranked-image s v x l = setRank-image (withCounts (fieldsOf s) (phi (ranked v x s
 
 module _ (s : State) (p : Proper s) (i v : ℕ) (l : v < s .n) (top : i ≤ base .top) (row : RowBelow i v s) where
   enter-counts : s .rank v ≤ i
-      → zeroedBelow (image (withCounts (fieldsOf s) (loweredCounts s i v))) v (i + 1)
+      → recounted none (image (withCounts (fieldsOf s) (loweredCounts s i v))) v 0 (i + 1)
       ≡ image (withCounts (fieldsOf s) (phi (ranked v (suc i) s)))
   unfolding withCounts base
   enter-counts r =
-      zeroed-image (withCounts (fieldsOf s) (loweredCounts s i v)) v (i + 1) (phi (ranked v (suc i) s)) (omega (arith, p .few))
-      (omega arith) (λ j k. enter-own s p i v j l (omega arith)) (λ w j d. enter-phi s p i v w j l r row (λ e. omega (arith, d e)))
+      recounted-image none (withCounts (fieldsOf s) (loweredCounts s i v)) v 0 (i + 1) (phi (ranked v (suc i) s)) (omega (arith, p .few))
+      (omega arith) (λ j m k. enter-own s p i v j l (omega arith)) (λ w j d. enter-phi s p i v w j l r row (λ e. omega (arith, d e (omega arith))))
 
   pub enter-bytes : s .rank v ≤ i
-      → setRank (zeroedBelow (image (withCounts (fieldsOf s) (loweredCounts s i v))) v (i + 1)) v (i + 1) ≡ write (ranked v (suc i) s)
+      → setRank (recounted none (image (withCounts (fieldsOf s) (loweredCounts s i v))) v 0 (i + 1)) v (i + 1) ≡ write (ranked v (suc i) s)
   enter-bytes r =
       ap (λ (bs : List ℕ). setRank bs v (i + 1)) (enter-counts r) ∙ rw add-one (ranked-image s v (suc i) (omega (arith, p .few)))
 

@@ -11,15 +11,16 @@ use Rattle.layout.specs.Setters.{setPhi}
 unfoldable pub withCounts : Fields → (ℕ → ℕ → ℕ) → Fields
 withCounts f c = record { n = f .n; edges = f .edges; rank = f .rank; mate = f .mate; phi = c; owns = f .owns }
 
--- one less at j, for k levels from j on
-unfoldable pub loweredFrom : List ℕ → ℕ → ℕ → ℕ → List ℕ
-loweredFrom bs w j zero = bs
-loweredFrom bs w j (suc k) = loweredFrom (setPhi bs w j (phiAt bs w j - 1)) w (suc j) k
+-- each count of w at the k levels from j on, changed by f: `suc` adds 1, `less` takes 1 off, `none` leaves 0
+unfoldable pub recounted : (ℕ → ℕ) → List ℕ → ℕ → ℕ → ℕ → List ℕ
+recounted f bs w j zero = bs
+recounted f bs w j (suc k) = recounted f (setPhi bs w j (f (phiAt bs w j))) w (suc j) k
 
--- 0 at the levels below k
-unfoldable pub zeroedBelow : List ℕ → ℕ → ℕ → List ℕ
-zeroedBelow bs u zero = bs
-zeroedBelow bs u (suc k) = setPhi (zeroedBelow bs u k) u k 0
+abbrev pub less : ℕ → ℕ
+less c = c - 1
+
+abbrev pub none : ℕ → ℕ
+none c = 0
 
 -- a rise of u to level i, from its rank on, takes 1 off the count of w at j: w's edge to u is u's
 unfoldable pub hit : State → ℕ → ℕ → ℕ → ℕ → Bool

@@ -10,7 +10,7 @@ ghost use Rattle.model.specs.Moves.{part as parted, rise as risen, marry as pai
 ghost use Rattle.layout.specs.Setters.{Sized, own as owned, disown as disowned};
 ghost use Rattle.layout.specs.Rows.{degreeAt};
 ghost use Rattle.moves.specs.Proper.{Held, tookOver, ranked, RowBelow};
-ghost use Rattle.moves.specs.Counts.{withCounts, loweredFrom, zeroedBelow, loweredCounts, raisedCounts};
+ghost use Rattle.moves.specs.Counts.{withCounts, recounted, less, none, loweredCounts, raisedCounts};
 
 // v's pair is parted; a free v stays as it is.
 pub fn part(rack: &mut [u8], v: usize)
@@ -88,12 +88,27 @@ pub fn lower(rack: &mut [u8], w: usize, j: usize, k: usize)
     requires { ⌜ Sized (now rack) ⌝ }
     requires { ⌜ (w < mostOf) × (j + k ≤ 4) ⌝ }
     requires { ⌜ ((x : ℕ) → j ≤ x → x < j + k → 1 ≤ phiAt (now rack) w x) ⌝ }
-    ensures { λ _. ⌜ now (rack .exit) ≡ loweredFrom (now (rack .entry)) w j k ⌝ }
+    ensures { λ _. ⌜ now (rack .exit) ≡ recounted less (now (rack .entry)) w j k ⌝ }
 {
     let mut x = 0;
     while x < k {
         let c = layout::phi(rack, w, j + x);
         layout::set_phi(rack, w, j + x, c - 1);
+        x += 1;
+    }
+}
+
+// The counts of w gain 1 at the k levels from j on.
+pub fn raise(rack: &mut [u8], w: usize, j: usize, k: usize)
+    requires { ⌜ Sized (now rack) ⌝ }
+    requires { ⌜ (w < mostOf) × (j + k ≤ 4) ⌝ }
+    requires { ⌜ ((x : ℕ) → j ≤ x → x < j + k → phiAt (now rack) w x < 255) ⌝ }
+    ensures { λ _. ⌜ now (rack .exit) ≡ recounted suc (now (rack .entry)) w j k ⌝ }
+{
+    let mut x = 0;
+    while x < k {
+        let c = layout::phi(rack, w, j + x);
+        layout::set_phi(rack, w, j + x, c + 1);
         x += 1;
     }
 }
@@ -123,7 +138,7 @@ fn lower_counts(rack: &mut [u8], u: usize, i: usize)
 fn zero_counts(rack: &mut [u8], u: usize, k: usize)
     requires { ⌜ Sized (now rack) ⌝ }
     requires { ⌜ (u < mostOf) × (k ≤ 4) ⌝ }
-    ensures { λ _. ⌜ now (rack .exit) ≡ zeroedBelow (now (rack .entry)) u k ⌝ }
+    ensures { λ _. ⌜ now (rack .exit) ≡ recounted none (now (rack .entry)) u 0 k ⌝ }
 {
     let mut j = 0;
     while j < k {

@@ -8,7 +8,7 @@ use borrow.Author.Needs.{needs}
 use Rattle.model.specs.State.{base}
 use Rattle.model.specs.Bytes.{read}
 use Rattle.layout.specs.Setters.{setRank}
-use Rattle.moves.specs.Counts.{zeroedBelow}
+use Rattle.moves.specs.Counts.{recounted, none}
 use Rattle.moves.proofs.Held.{held-sized, held-small}
 use Rattle.moves.proofs.RankSteps.{enter-bytes}
 use Rattle.moves.proofs.enter.Statement.{statement}
@@ -54,7 +54,7 @@ returns c =
     let p = lowered .before .before .before .pre in
     let last : List ℕ → List ℕ = λ bs. setRank bs (a .u) (a .i + 1) in
     c .before .before .set-rank .ensures
-    ∙ ap last (zeroed .zero-counts .ensures ∙ ap (λ (bs : List ℕ). zeroedBelow bs (a .u) (a .i + 1)) (lowered .lower-counts .ensures))
+    ∙ ap last (zeroed .zero-counts .ensures ∙ ap (λ (bs : List ℕ). recounted none bs (a .u) 0 (a .i + 1)) (lowered .lower-counts .ensures))
     ∙ enter-bytes (read (a .rack .now)) (p .0 .proper) (a .i) (a .u) (p .1 .0 .0) (p .1 .0 .2) (p .1 .1) (p .1 .0 .1)
 
 pub enter-spec : {M : Type 1} → statement M

@@ -2,24 +2,23 @@
 use mathlib.Core.Path.{_≡_, refl, ap, _∙_}
 use mathlib.Core.List.{List}
 use Prim.Native.Nat.{ℕ, suc, _+_, _-_, _≤_}
-use native.Mathlib.Numerals.{add-one}
 use native.Mathlib.Omega.{arith}
 use lib.ListN.{length}
 use borrow.Author.Needs.{needs}
 use Rattle.model.specs.Bytes.{phiAt}
-use Rattle.moves.specs.Counts.{loweredFrom}
-use Rattle.moves.proofs.CountSteps.{lowered-more, lowered-above}
+use Rattle.moves.specs.Counts.{recounted, less}
+use Rattle.moves.proofs.CountSteps.{next-count, next-level}
 use Rattle.moves.proofs.lower.Statement.{statement}
 use Rattle.moves.proofs.lower.Tie as tie
 
 abbrev Inv-loop : tie.InvT-loop
-Inv-loop rack₀ w j k x₀ rack x = (x ≤ k) × ((length rack ≡ length rack₀) × (rack ≡ loweredFrom rack₀ w j x))
+Inv-loop rack₀ w j k x₀ rack x = (x ≤ k) × ((length rack ≡ length rack₀) × (rack ≡ recounted less rack₀ w j x))
 
 abbrev μ-loop : tie.MeasureT-loop
 μ-loop rack₀ w j k x₀ rack x = k - x
 
 loop-holds : tie.Need-loop-holds Inv-loop μ-loop
-unfolding loweredFrom
+unfolding recounted
 loop-holds c = (omega arith, (refl, refl))
 
 add-phi : tie.Need-add-phi Inv-loop μ-loop
@@ -37,9 +36,12 @@ sub-set-phi c =
     let a = at .before .before .args in
     let l = at .loop in
     let x : ℕ = a .j + l .x in
-    let old : phiAt (l .rack) (a .w) x ≡ phiAt (a .rack .now) (a .w) x =
-    ap (λ (bs : List ℕ). phiAt bs (a .w) x) (l .inv .1 .1) ∙ lowered-above (a .rack .now) (a .w) (a .j) (l .x) x (omega arith) in
-    omega (arith, at .before .before .pre .1 .1 x (omega arith) (omega arith), c .before .phi .ensures)
+    omega (
+      arith,
+      c .before .phi .ensures,
+      next-count less (a .rack .now) (a .w) (a .j) (l .x) (l .inv .1 .1),
+      at .before .before .pre .1 .1 x (omega arith) (omega arith),
+    )
 
 set-phi-requires : tie.Need-set-phi-requires Inv-loop μ-loop
 set-phi-requires c κs = search needs
@@ -56,9 +58,8 @@ loop-again c =
     let got = c .before .before .before .before .phi in
     let l = c .before .before .before .before .before .before .before .loop in
     let a = c .before .before .before .before .before .before .before .before .before .args in
-    let more : put .last .0 ≡ loweredFrom (a .rack .now) (a .w) (a .j) (suc (l .x)) =
-    cc (lowered-more (a .rack .now) (a .w) (a .j) (l .x), l .inv .1 .1, put .ensures, got .ensures) in
-    (omega arith, (omega (arith, put .kept .0), rw add-one more))
+    let more = next-level less (a .rack .now) (a .w) (a .j) (l .x) (l .inv .1 .1) _ _ refl (ap less (got .ensures)) (put .ensures) in
+    (omega arith, (omega (arith, put .kept .0), more))
 
 same-length : tie.Need-same-length Inv-loop μ-loop
 same-length c = c .before .loop .inv .1 .0
@@ -68,7 +69,7 @@ returns c =
     let a = c .before .before .before .args in
     let l = c .before .loop in
     let e : l .x ≡ a .k = omega arith in
-    l .inv .1 .1 ∙ ap (loweredFrom (a .rack .now) (a .w) (a .j)) e
+    l .inv .1 .1 ∙ ap (recounted less (a .rack .now) (a .w) (a .j)) e
 
 pub lower-spec : {M : Type 1} → statement M
 lower-spec =
