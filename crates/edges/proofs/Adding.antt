@@ -1,10 +1,10 @@
 -- An add on the bytes: the owner's bit, and what an edge more needs. Assumes nothing.
-use mathlib.Core.Path.{_≡_, sym, ap, _∙_}
+use mathlib.Core.Path.{_≡_, ap, _∙_}
 use mathlib.Core.Logic.{_≢_}
-use Prim.Native.Nat.{ℕ, suc, _+_, _≤_, _<_}
+use Prim.Native.Nat.{ℕ, suc, _≤_, _<_}
 use native.Mathlib.Omega.{arith}
 use lib.Dec.{T}
-use Rattle.model.specs.State.{base, State, edge, edges}
+use Rattle.model.specs.State.{base, State, edge}
 use Rattle.model.specs.Bytes.{image, write}
 use Rattle.model.specs.Change.{addEdge, owning}
 use Rattle.model.proofs.Limits.{edges-few}

@@ -4,7 +4,7 @@ use mathlib.Core.Logic.{_≢_}
 use Prim.Native.Nat.{ℕ, suc, _-_, _≤_, _<_}
 use native.Mathlib.Omega.{arith}
 use lib.Dec.{T}
-use Rattle.model.specs.State.{base, State, edge, edges}
+use Rattle.model.specs.State.{base, State, edge}
 use Rattle.model.specs.Bytes.{image, write}
 use Rattle.model.specs.Change.{reown}
 use Rattle.layout.specs.Setters.{disown}

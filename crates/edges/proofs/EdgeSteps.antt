@@ -2,7 +2,7 @@
 -- The same laws serve both ways. Assumes nothing.
 use mathlib.Core.Path.{_≡_, sym, ap, _∙_, subst}
 use mathlib.Core.List.{List}
-use Prim.Native.Nat.{ℕ, suc, _+_, _-_, _≤_, _<_}
+use Prim.Native.Nat.{ℕ, _+_, _-_, _≤_, _<_}
 use native.Mathlib.Omega.{arith}
 use Rattle.model.specs.State.{base, State, phi, edges}
 use Rattle.model.specs.Bytes.{edgesAt, phiAt, image, write}

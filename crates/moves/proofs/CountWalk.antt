@@ -8,14 +8,15 @@ use lib.Dec.{T, leb, leb→le}
 use lib.ListN.{length}
 use Rattle.model.specs.Counting.{upd}
 use Rattle.model.specs.State.{State, edge, near, phi}
-use Rattle.model.specs.Bytes.{rankAt, phiAt, ownsAt, image, fieldsOf, write}
+use Rattle.model.specs.Bytes.{sizeAt, rankAt, phiAt, ownsAt, image, fieldsOf, read, write}
 use Rattle.model.proofs.Tests.{eq?, le?, and-right}
 use Rattle.model.proofs.Lists.{upd-same, upd-other}
 use Rattle.model.proofs.Fields.{image-length, rank-image, phi-image, owns-image}
 use Rattle.layout.specs.Setters.{Sized, setPhi}
-use Rattle.moves.specs.Proper.{Proper, RowBelow}
+use Rattle.layout.specs.Rows.{NextOwned}
+use Rattle.moves.specs.Proper.{Proper, Held, RowBelow}
 use Rattle.moves.specs.Counts.{withCounts, recounted, less, loweredCounts, raisedCounts}
-use Rattle.moves.proofs.Held.{NextIn}
+use Rattle.moves.proofs.Held.{held-sized, held-size, held-small, held-owns, NextIn, next-in}
 use Rattle.moves.proofs.Choices.{hit-says, hit-of, lowered-yes, lowered-no, raised-yes, raised-no}
 use Rattle.moves.proofs.CountSteps.{counts-ext, recounted-image, setCount-image}
 
@@ -97,6 +98,46 @@ module _ (s : State) (new : ℕ → ℕ → ℕ) (u : ℕ) (quiet : Quiet s new 
         | inl b ↦ quiet x j (λ t. omega (arith, p .inside u x t .1)) ∙ sym (k .left x j b)
         | inr b ↦ sym (k .done x j b)
       ])
+
+-- a walk along u's row of a held rack, as its loop goes: n is the size that was read
+pub record Walk (bs₀ : List ℕ) (new : ℕ → ℕ → ℕ) (u : ℕ) : Type 0 where
+  pub held : Held bs₀
+  pub inside : u < read bs₀ .n
+  pub quiet : Quiet (read bs₀) new u
+
+module _ {bs₀ : List ℕ} {new : ℕ → ℕ → ℕ} {u : ℕ} (W : Walk bs₀ new u) where
+  pub u-small : u < 256
+  u-small = held-small (W .held) u (W .inside)
+
+  pub row-starts : {r : ℕ} → NextOwned bs₀ u 0 r → Walked (read bs₀) new u bs₀ r
+  row-starts {r} n =
+      walk-start (read bs₀) new u (W .quiet) bs₀ r (W .held .written)
+      (next-in (read bs₀) (W .held .proper) bs₀ (held-owns (W .held)) u 0 r u-small n)
+
+  module _ {bs : List ℕ} {n w : ℕ} (k : Walked (read bs₀) new u bs w) (size : n ≡ sizeAt bs₀) where
+    pub w-inside : w < n → w < read bs₀ .n
+    w-inside l = omega (arith, held-size (W .held))
+
+    pub w-small : w < n → w < 256
+    w-small l = held-small (W .held) w (w-inside l)
+
+    pub w-owned : w < n → T (read bs₀ .owns u w)
+    w-owned l = k .here (w-inside l)
+
+    pub w-sized : Sized bs
+    w-sized = counted-sized (read bs₀) (k .counts) bs (k .is)
+
+    pub row-goes-on : {next : List ℕ} {r : ℕ} → Counted (read bs₀) (upd (k .counts) w (new w)) next → NextOwned next u (w + 1) r
+        → Walked (read bs₀) new u next r
+    row-goes-on {next} {r} e n =
+        walk-step (read bs₀) new u (W .quiet) bs w k next r e
+        (next-in (read bs₀) (W .held .proper) next (counted-owns (read bs₀) _ next e) u (w + 1) r u-small n)
+
+    pub row-ends : n ≤ w → Counted (read bs₀) new bs
+    row-ends l = walk-end (read bs₀) new u (W .quiet) (W .held .proper) bs w (omega (arith, held-size (W .held))) k
+
+    pub same-size : length bs ≡ length bs₀
+    same-size = w-sized ∙ sym (held-sized (W .held))
 
 -- a row of counts put in at w
 row-at : (f : ℕ → ℕ → ℕ) (w : ℕ) (row : ℕ → ℕ) (j : ℕ) → upd f w row w j ≡ row j

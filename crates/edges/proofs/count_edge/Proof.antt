@@ -1,14 +1,14 @@
 -- `edges::count_edge` meets its contract: one end's counts, then the other's, then the number of edges. Assumes nothing.
-use mathlib.Core.Path.{_≡_, ap, _∙_, subst}
+use mathlib.Core.Path.{_≡_, ap, _∙_}
 use mathlib.Core.List.{List}
-use Prim.Native.Nat.{ℕ, suc, _+_, _-_, _<_, _≤_}
+use Prim.Native.Nat.{ℕ, suc, _+_, _-_}
 use native.Mathlib.Omega.{arith}
 use borrow.Author.Needs.{needs}
 use Rattle.model.specs.State.{base}
 use Rattle.model.specs.Bytes.{edgesAt, phiAt}
 use Rattle.layout.specs.Setters.{setEdges}
 use Rattle.moves.specs.Counts.{recounted}
-use Rattle.edges.specs.Steps.{recountedFrom, endsCounted, edgeCounted, Countable}
+use Rattle.edges.specs.Steps.{recountedFrom, endsCounted, edgeCounted}
 use Rattle.edges.proofs.count_edge.Statement.{statement}
 use Rattle.edges.proofs.count_edge.Tie as tie
 

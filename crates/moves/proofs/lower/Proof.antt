@@ -1,11 +1,9 @@
 -- `moves::lower` meets its contract. The loop's invariant: the counts have lost 1 at the first x levels. Assumes nothing.
 use mathlib.Core.Path.{_≡_, refl, ap, _∙_}
-use mathlib.Core.List.{List}
-use Prim.Native.Nat.{ℕ, suc, _+_, _-_, _≤_}
+use Prim.Native.Nat.{ℕ, _+_, _-_, _≤_}
 use native.Mathlib.Omega.{arith}
 use lib.ListN.{length}
 use borrow.Author.Needs.{needs}
-use Rattle.model.specs.Bytes.{phiAt}
 use Rattle.moves.specs.Counts.{recounted, less}
 use Rattle.moves.proofs.CountSteps.{next-count, next-level}
 use Rattle.moves.proofs.lower.Statement.{statement}

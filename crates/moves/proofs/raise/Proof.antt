@@ -1,10 +1,8 @@
 -- `moves::raise` meets its contract. The loop's invariant: the counts have gained 1 at the first x levels. Assumes nothing.
 use mathlib.Core.Path.{_≡_, refl, ap, _∙_}
-use mathlib.Core.List.{List}
 use Prim.Native.Nat.{ℕ, suc, _+_, _-_, _≤_}
 use native.Mathlib.Omega.{arith}
 use lib.ListN.{length}
-use Rattle.model.specs.Bytes.{phiAt}
 use Rattle.moves.specs.Counts.{recounted}
 use Rattle.moves.proofs.CountSteps.{next-count, next-level}
 use borrow.Author.Needs.{needs}
