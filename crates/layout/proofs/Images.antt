@@ -14,6 +14,7 @@ use Rattle.model.proofs.Tests.{eq?}
 use Rattle.model.proofs.Lists.{upd-same, upd-other}
 use Rattle.model.proofs.Chunks.{each-one-length}
 use Rattle.model.proofs.Fields.{heads, ranks, mates, phis, rows, parts, heads-length, ranks-length, mates-length, phis-length, row-byte}
+use Rattle.bitset.specs.Row.{inserted, removed}
 use Rattle.layout.specs.Setters.{setTwo, setEdges, setRank, setMate, setPhi, own, disown}
 use Rattle.layout.proofs.Pieces.{set-behind, each-ext, set-each, each-one-ext, set-each-one, rowByte-ext, rowByte-other, rowByte-or, rowByte-and}
 
@@ -173,14 +174,14 @@ place-bit : (v w : ℕ) → (14400 + (256 * v + w)) % 8 ≡ w % 8
 place-bit v w = omega arith
 
 pub own-image : (f : Fields) (v w : ℕ) → v < 256 → w < 256 → own (image f) v w ≡ image (withOwns f v w true)
-unfolding own
+unfolding inserted
 own-image f v w l k =
     ap₂ (λ (i j : ℕ). set (image f) i (bitOr (getD (image f) i 0) (2 ^ j))) (place-byte v w) (place-bit v w)
     ∙ set-row f v w _ true l k
     (ap (λ (x : ℕ). bitOr x (2 ^ (w % 8))) (row-byte f v (w / 8) l (omega arith)) ∙ rowByte-or (f .owns v) w)
 
 pub disown-image : (f : Fields) (v w : ℕ) → v < 256 → w < 256 → disown (image f) v w ≡ image (withOwns f v w false)
-unfolding disown
+unfolding removed
 disown-image f v w l k =
     ap₂ (λ (i j : ℕ). set (image f) i (bitAnd (getD (image f) i 0) (255 - 2 ^ j))) (place-byte v w) (place-bit v w)
     ∙ set-row f v w _ false l k

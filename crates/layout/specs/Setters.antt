@@ -31,12 +31,10 @@ setPhi bs v j x = set bs (776 + (4 * v + j)) x
 
 -- v owns the edge v-w, or no longer does. Row v is the 32 bytes from 1,800 + 32 v: as one long row, its place w is place
 -- 8 * (1,800 + 32 v) + w of the whole buffer.
-unfoldable pub own : List ℕ → ℕ → ℕ → List ℕ
-unfolding inserted
+abbrev pub own : List ℕ → ℕ → ℕ → List ℕ
 own bs v w = inserted bs (14400 + (256 * v + w))
 
-unfoldable pub disown : List ℕ → ℕ → ℕ → List ℕ
-unfolding removed
+abbrev pub disown : List ℕ → ℕ → ℕ → List ℕ
 disown bs v w = removed bs (14400 + (256 * v + w))
 
 -- every byte zero, but for the mates' entries, which name none
