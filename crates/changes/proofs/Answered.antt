@@ -18,7 +18,7 @@ use Rattle.theory.proofs.OnBytes.{step}
 use Rattle.moves.proofs.Edges.{edge-turn}
 use Rattle.settling.specs.declared.Tally.{Tally}
 use Rattle.changes.specs.declared.Answer.{Answer}
-use Rattle.changes.specs.Sounded.{Sounded, brought, Acceptable, acceptedRun, Ran, Answers}
+use Rattle.changes.specs.Sounded.{Sounded, brought, Acceptable, acceptedRun, Ended, Answers}
 
 -- the entry of a's mate names b exactly if b is its mate
 pub entry-names : (s : State) (a b : ℕ) → a ≢ b → b < 256 → mateEntry s a ≡ b → s .mate a ≡ b
@@ -68,8 +68,8 @@ module _ (s : State) (code a b : ℕ) (words : List ℕ) where
       }
 
 -- what is left of a run is left of an equal one
-pub ran-is : {r q : Run} {bs : List ℕ} {t : Tally} → r ≡ q → Ran q bs t → Ran r bs t
-ran-is {r} {q} {bs} {t} e x = subst (λ (z : Run). Ran z bs t) (sym e) x
+pub ran-is : {r q : Run} {bs : List ℕ} {t : Tally} → r ≡ q → Ended q bs t → Ended r bs t
+ran-is {r} {q} {bs} {t} e x = subst (λ (z : Run). Ended z bs t) (sym e) x
 
 -- the other way round it is the same edge
 pub edge-swap : (s : State) (a b : ℕ) → edge s b a ≡ edge s a b
@@ -108,11 +108,11 @@ module _ (bs : List ℕ) (ok : Sounded bs) (code a b : ℕ) (words : List ℕ) w
   run-valid z = subst (λ (d : Changed). Valid base (d .state)) (run-is z) (t .valid)
 
   pub accepted-sounded : {bs′ : List ℕ} {x : Tally} → number (read bs .n) (edge (read bs)) (brought code a b words) ≡ 0
-      → Ran (acceptedRun (read bs) (brought code a b words)) bs′ x → Sounded bs′
+      → Ended (acceptedRun (read bs) (brought code a b words)) bs′ x → Sounded bs′
   accepted-sounded {bs′} z x = sounded-of bs′ _ (x .rack) (run-valid z)
 
   pub accepted-answer : {bs′ : List ℕ} {x : Tally} → number (read bs .n) (edge (read bs)) (brought code a b words) ≡ 0
-      → Ran (acceptedRun (read bs) (brought code a b words)) bs′ x → (r : Answer) → r .number ≡ 0 → r .draws ≡ x .draws → r .falls ≡ x .falls
+      → Ended (acceptedRun (read bs) (brought code a b words)) bs′ x → (r : Answer) → r .number ≡ 0 → r .draws ≡ x .draws → r .falls ≡ x .falls
       → r .pairs ≡ pairs (read bs′) → Answers r (change base (read bs) (brought code a b words) .answer)
   unfolding done
   accepted-answer {bs′} z x r e p q o =
@@ -125,6 +125,6 @@ module _ (bs : List ℕ) (ok : Sounded bs) (code a b : ℕ) (words : List ℕ) w
       })
 
   pub accepted-leaves : {bs′ : List ℕ} {x : Tally} → number (read bs .n) (edge (read bs)) (brought code a b words) ≡ 0
-      → Ran (acceptedRun (read bs) (brought code a b words)) bs′ x → bs′ ≡ write (change base (read bs) (brought code a b words) .state)
+      → Ended (acceptedRun (read bs) (brought code a b words)) bs′ x → bs′ ≡ write (change base (read bs) (brought code a b words) .state)
   unfolding done
   accepted-leaves z x = x .rack ∙ ap (λ (d : Changed). write (d .state)) (sym (run-is z))

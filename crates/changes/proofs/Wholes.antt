@@ -21,7 +21,7 @@ use Rattle.moves.proofs.Keeps.{part-proper}
 use Rattle.edges.proofs.Changed.{add-size, add-proper, drop-proper}
 use Rattle.settling.specs.declared.Tally.{Tally}
 use Rattle.settling.specs.Settling.{running, HoldsPending, Left}
-use Rattle.changes.specs.Sounded.{Sounded, Begun, Liftable, Ran}
+use Rattle.changes.specs.Sounded.{Sounded, Begun, Liftable, Ended}
 use Rattle.changes.proofs.Begun.{still, add-still, add-ordered, drop-ordered, Riser, riser-of, parted-pending}
 use Rattle.changes.proofs.Chains.{begins, settled-same, ran-of}
 
@@ -65,7 +65,7 @@ module _ (bs₀ bs : List ℕ) (ok : Sounded bs₀) (a b : ℕ) (inside : (a < r
 
   -- no level is reached: finished
   pub added-none : (words : List ℕ) → riser base a b (suc (base .top)) (read bs) ≡ none → (t : Tally) → t .draws ≡ 0 → t .falls ≡ 0
-      → Ran (add base words a b (read bs₀)) bs t
+      → Ended (add base words a b (read bs₀)) bs t
   unfolding add start
   added-none words f t d g =
       rw (subst (λ (s : State). riser base a b (suc (base .top)) s ≡ none) added-read f, add)
@@ -73,11 +73,11 @@ module _ (bs₀ bs : List ℕ) (ok : Sounded bs₀) (a b : ℕ) (inside : (a < r
 
   -- the riser is promoted, and the settling follows
   pub added-found : (words : List ℕ) (i u : ℕ) → riser base a b (suc (base .top)) (read bs) ≡ found i u → {bs′ : List ℕ} {t : Tally}
-      → Ran (settle base words (promote words i u (start (read bs)))) bs′ t → Ran (add base words a b (read bs₀)) bs′ t
+      → Ended (settle base words (promote words i u (start (read bs)))) bs′ t → Ended (add base words a b (read bs₀)) bs′ t
   unfolding add
   added-found words i u f {bs′} {t} r =
       rw (subst (λ (s : State). riser base a b (suc (base .top)) s ≡ found i u) added-read f, add)
-      (subst (λ (s : State). Ran (settle base words (promote words i u (start s))) bs′ t) added-read r)
+      (subst (λ (s : State). Ended (settle base words (promote words i u (start s))) bs′ t) added-read r)
 
 -- ---- drop
 module _ (bs₀ bs : List ℕ) (ok : Sounded bs₀) (a b : ℕ) (e : bs ≡ write (reown (read bs₀) (withoutEdge (read bs₀ .owns) a b))) where
@@ -106,17 +106,17 @@ module _ (bs₀ bs : List ℕ) (ok : Sounded bs₀) (a b : ℕ) (e : bs ≡ writ
 
   -- a loose edge: no level changes
   pub dropped-loose : (words : List ℕ) → read bs₀ .mate a ≢ b → (t : Tally) → t .draws ≡ 0 → t .falls ≡ 0
-      → Ran (drop base words a b (read bs₀)) bs t
+      → Ended (drop base words a b (read bs₀)) bs t
   unfolding drop start
   dropped-loose words d t p q = rw (eqb-no (read bs₀ .mate a) b d, drop) (record { rack = e; draws = p; falls = q })
 
   -- the edge of a pair: parted, and the settling follows
   pub dropped-pair : (words : List ℕ) → read bs₀ .mate a ≡ b → {bs′ : List ℕ} {t : Tally}
-      → Ran (settle base words (start (part a (read bs)))) bs′ t → Ran (drop base words a b (read bs₀)) bs′ t
+      → Ended (settle base words (start (part a (read bs)))) bs′ t → Ended (drop base words a b (read bs₀)) bs′ t
   unfolding drop
   dropped-pair words m {bs′} {t} r =
       rw (eqb-yes (read bs₀ .mate a) b m, drop)
-      (subst (λ (s : State). Ran (settle base words (start (part a s))) bs′ t) dropped-read r)
+      (subst (λ (s : State). Ended (settle base words (start (part a s))) bs′ t) dropped-read r)
 
 -- the two that were mates are all that can be pending once they are parted
 pub parted-holds : (bs row : List ℕ) → Begun bs → (a b : ℕ) → a < read bs .n → b < read bs .n → read bs .mate a ≡ b → length row ≡ 32
@@ -156,6 +156,6 @@ parted-next bs₀ bs row g a l e w =
 
 -- and after the settling that follows
 pub parted-ran : (words : List ℕ) (bs₀ bs : List ℕ) (a : ℕ) → read bs ≡ part a (read bs₀) → (t₀ : Tally) → t₀ .draws ≡ 0 → t₀ .falls ≡ 0
-    → {bs′ row′ : List ℕ} {t : Tally} → Left (settle base words (running bs t₀)) bs′ row′ t → Ran (settle base words (start (part a (read bs₀)))) bs′ t
+    → {bs′ row′ : List ℕ} {t : Tally} → Left (settle base words (running bs t₀)) bs′ row′ t → Ended (settle base words (start (part a (read bs₀)))) bs′ t
 parted-ran words bs₀ bs a r t₀ d f {bs′} {row′} {t} l =
-    subst (λ (s : State). Ran (settle base words (start s)) bs′ t) r (ran-of l (settled-same words (begins bs t₀ d f)))
+    subst (λ (s : State). Ended (settle base words (start s)) bs′ t) r (ran-of l (settled-same words (begins bs t₀ d f)))

@@ -48,7 +48,7 @@ acceptedRun s c = elim (eqb (c .code) 1) [
 ]
 
 -- what a run leaves: the rack's bytes and the tally
-pub record Ran (r : Run) (bs : List ℕ) (t : Tally) : Type 0 where
+pub record Ended (r : Run) (bs : List ℕ) (t : Tally) : Type 0 where
   pub rack : bs ≡ write (r .state)
   pub draws : t .draws ≡ r .draws
   pub falls : t .falls ≡ r .falls

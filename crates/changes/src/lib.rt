@@ -8,7 +8,7 @@ ghost use Rattle.model.specs.Bytes.{read, write};
 ghost use Rattle.model.specs.Moves.{part as parted, promote as promoted, settle as settled};
 ghost use Rattle.model.specs.Change.{start, add as added, drop as dropped, number as numberOf, change as changeOf};
 ghost use Rattle.moves.specs.Proper.{Held};
-ghost use Rattle.changes.specs.Sounded.{Sounded, Begun, Liftable, Acceptable, acceptedRun, Ran, Answers, brought, codeNumber, endsNumber, linkNumber, wordsNumber};
+ghost use Rattle.changes.specs.Sounded.{Sounded, Begun, Liftable, Acceptable, acceptedRun, Ended, Answers, brought, codeNumber, endsNumber, linkNumber, wordsNumber};
 use settling::Tally;
 
 // "A change answers 0, its draws, its falls (moves down by one level) and the pairs then held."
@@ -108,7 +108,7 @@ fn number(rack: &[u8], code: u32, a: u32, b: u32, words: &[u32]) -> u32
 fn add(rack: &mut [u8], a: usize, b: usize, words: &[u32]) -> Tally
     requires { ⌜ Sounded (now rack) ⌝ }
     requires { ⌜ (a < read (now rack) .n) × (b < read (now rack) .n) × (a ≢ b) × (edge (read (now rack)) a b ≡ false) ⌝ }
-    ensures { λ r. ⌜ Ran (added base (now (words .entry)) a b (read (now (rack .entry)))) (now (rack .exit)) r ⌝ }
+    ensures { λ r. ⌜ Ended (added base (now (words .entry)) a b (read (now (rack .entry)))) (now (rack .exit)) r ⌝ }
 {
     edges::add_edge(rack, a, b);
     let edges::Reached::At(i, u) = edges::riser(rack, a, b) else {
@@ -121,7 +121,7 @@ fn add(rack: &mut [u8], a: usize, b: usize, words: &[u32]) -> Tally
 fn promote_and_settle(rack: &mut [u8], u: usize, i: usize, words: &[u32]) -> Tally
     requires { ⌜ Begun (now rack) ⌝ }
     requires { ⌜ Liftable (read (now rack)) i u ⌝ }
-    ensures { λ r. ⌜ Ran (settled base (now (words .entry)) (promoted (now (words .entry)) i u (start (read (now (rack .entry)))))) (now (rack .exit)) r ⌝ }
+    ensures { λ r. ⌜ Ended (settled base (now (words .entry)) (promoted (now (words .entry)) i u (start (read (now (rack .entry)))))) (now (rack .exit)) r ⌝ }
 {
     let mut pending = layout::empty_row();
     let t = settling::promote(rack, &mut pending, words, u, i, Tally::new());
@@ -132,7 +132,7 @@ fn promote_and_settle(rack: &mut [u8], u: usize, i: usize, words: &[u32]) -> Tal
 fn part_and_settle(rack: &mut [u8], a: usize, b: usize, words: &[u32]) -> Tally
     requires { ⌜ Begun (now rack) ⌝ }
     requires { ⌜ (a < read (now rack) .n) × (b < read (now rack) .n) × (read (now rack) .mate a ≡ b) ⌝ }
-    ensures { λ r. ⌜ Ran (settled base (now (words .entry)) (start (parted a (read (now (rack .entry)))))) (now (rack .exit)) r ⌝ }
+    ensures { λ r. ⌜ Ended (settled base (now (words .entry)) (start (parted a (read (now (rack .entry)))))) (now (rack .exit)) r ⌝ }
 {
     let mut pending = layout::empty_row();
     bitset::insert(&mut pending, a);
@@ -145,7 +145,7 @@ fn part_and_settle(rack: &mut [u8], a: usize, b: usize, words: &[u32]) -> Tally
 fn drop(rack: &mut [u8], a: usize, b: usize, words: &[u32]) -> Tally
     requires { ⌜ Sounded (now rack) ⌝ }
     requires { ⌜ (a < read (now rack) .n) × (b < read (now rack) .n) × (a ≢ b) × (edge (read (now rack)) a b ≡ true) ⌝ }
-    ensures { λ r. ⌜ Ran (dropped base (now (words .entry)) a b (read (now (rack .entry)))) (now (rack .exit)) r ⌝ }
+    ensures { λ r. ⌜ Ended (dropped base (now (words .entry)) a b (read (now (rack .entry)))) (now (rack .exit)) r ⌝ }
 {
     edges::drop_edge(rack, a, b);
     if layout::mate(rack, a) as usize == b {
@@ -158,7 +158,7 @@ fn drop(rack: &mut [u8], a: usize, b: usize, words: &[u32]) -> Tally
 fn accepted(rack: &mut [u8], code: u32, a: usize, b: usize, words: &[u32]) -> Tally
     requires { ⌜ Sounded (now rack) ⌝ }
     requires { ⌜ Acceptable (read (now rack)) code a b ⌝ }
-    ensures { λ r. ⌜ Ran (acceptedRun (read (now (rack .entry))) (brought code a b (now (words .entry)))) (now (rack .exit)) r ⌝ }
+    ensures { λ r. ⌜ Ended (acceptedRun (read (now (rack .entry))) (brought code a b (now (words .entry)))) (now (rack .exit)) r ⌝ }
 {
     if code == 1 {
         if b < a {

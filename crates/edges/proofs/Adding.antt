@@ -12,7 +12,7 @@ use Rattle.layout.specs.Setters.{own}
 use Rattle.moves.specs.Proper.{Proper}
 use Rattle.moves.proofs.Recount.{phi-fits}
 use Rattle.edges.specs.Steps.{Countable}
-use Rattle.edges.proofs.Joined.{Joined, edges-more}
+use Rattle.edges.proofs.Joined.{EdgeMore, edges-more}
 use Rattle.edges.proofs.Changed.{owning-bit, owning-rest, add-high, add-low, add-size, add-rank, add-mate, add-proper, add-joined}
 use Rattle.edges.proofs.Shifted.{Higher, Shifted, gained}
 use Rattle.edges.proofs.Stages.{turned, own-turned}
@@ -35,7 +35,7 @@ module _ (a b : ℕ) (s : State) (A : Addable a b s) where
   added-proper : Proper (addEdge a b s)
   added-proper = add-proper a b s (A .apart) (A .inside) (A .absent) (A .proper)
 
-  joined : Joined a b s (addEdge a b s)
+  joined : EdgeMore a b s (addEdge a b s)
   joined = add-joined a b s (A .apart) (A .inside) (A .absent)
 
   owned-as : (o e : ℕ) → o < 256 → e < 256 → addEdge a b s ≡ owning o e s → own (write s) o e ≡ image (turned s (addEdge a b s))

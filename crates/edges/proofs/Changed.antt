@@ -11,7 +11,7 @@ use Rattle.model.proofs.Tests.{le?, holds?, bool-ext, T-true, T-false, true-T, 
 use Rattle.theory.proofs.EdgeSets.{edge-is, is-edge}
 use Rattle.moves.specs.Proper.{Proper}
 use Rattle.moves.proofs.Edges.{edge-cases, edge-of, edge-back, edge-turn}
-use Rattle.edges.proofs.Joined.{Joined, joined-turn}
+use Rattle.edges.proofs.Joined.{EdgeMore, joined-turn}
 
 -- ---- the edge o-e, which o owns
 
@@ -70,7 +70,7 @@ module _ (o e : ℕ) (s : State) where
         back-owned : (v w : ℕ) → T (s .owns v w) → v ≡ e → w ≡ o → T (s .owns e o)
         back-owned v w t f g = subst (λ (x : ℕ). T (s .owns x o)) f (subst (λ (x : ℕ). T (s .owns v x)) g t)
 
-    owning-joined : Joined o e s (owning o e s)
+    owning-joined : EdgeMore o e s (owning o e s)
     unfolding owning reown
     owning-joined = record {
       size = refl;
@@ -127,9 +127,9 @@ module _ (a b : ℕ) (s : State) where
         add-either Proper a b s (owning-proper a b s apart inside absent p)
         (owning-proper b a s (λ e. apart (sym e)) (inside .1, inside .0) (λ h. absent (edge-turn s b a h)) p)
 
-    pub add-joined : Joined a b s (addEdge a b s)
+    pub add-joined : EdgeMore a b s (addEdge a b s)
     add-joined =
-        add-either (Joined a b s) a b s (owning-joined a b s apart inside absent)
+        add-either (EdgeMore a b s) a b s (owning-joined a b s apart inside absent)
         (joined-turn b a s (owning b a s)
         (owning-joined b a s (λ e. apart (sym e)) (inside .1, inside .0) (λ h. absent (edge-turn s b a h))))
 
@@ -165,7 +165,7 @@ module _ (a b : ℕ) (s : State) where
     owned-once = λ v w t u. p .owned-once v w (drop-old v w t) (drop-old w v u);
   }
 
-  pub drop-joined : a ≢ b → (a < s .n) × (b < s .n) → T (edge s a b) → Joined a b (dropEdge a b s) s
+  pub drop-joined : a ≢ b → (a < s .n) × (b < s .n) → T (edge s a b) → EdgeMore a b (dropEdge a b s) s
   unfolding reown
   drop-joined apart inside there = record {
     size = refl;

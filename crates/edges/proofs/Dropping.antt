@@ -11,7 +11,7 @@ use Rattle.layout.specs.Setters.{disown}
 use Rattle.moves.specs.Proper.{Proper}
 use Rattle.moves.specs.Counts.{less}
 use Rattle.edges.specs.Steps.{Countable}
-use Rattle.edges.proofs.Joined.{Joined, edges-more}
+use Rattle.edges.proofs.Joined.{EdgeMore, edges-more}
 use Rattle.edges.proofs.Changed.{dropEdge, drop-joined, drop-here, drop-back, drop-rest}
 use Rattle.edges.proofs.Shifted.{Higher, Shifted, gained, lost}
 use Rattle.edges.proofs.Stages.{turned, disown-turned}
@@ -31,7 +31,7 @@ module _ (a b : ℕ) (s : State) (D : Droppable a b s) where
   pub b-small : b < 256
   b-small = omega (arith, D .inside .1, D .proper .few)
 
-  joined : Joined a b (dropEdge a b s) s
+  joined : EdgeMore a b (dropEdge a b s) s
   joined = drop-joined a b s (D .apart) (D .inside) (D .there)
 
   -- the owner's bit, and the other end's, which is clear

@@ -16,7 +16,7 @@ use Rattle.theory.proofs.EdgeChange.{Added, add-turn}
 use Rattle.moves.proofs.Edges.{edge-turn, near-of, near-edge, near-low}
 
 -- t is s with the edge a-b, which s has not
-pub record Joined (a b : ℕ) (s t : State) : Type 0 where
+pub record EdgeMore (a b : ℕ) (s t : State) : Type 0 where
   pub size : t .n ≡ s .n
   pub rank : (v : ℕ) → t .rank v ≡ s .rank v
   pub added : Added a b (edge s) (edge t)
@@ -26,7 +26,7 @@ pub record Joined (a b : ℕ) (s t : State) : Type 0 where
   pub inside : (a < s .n) × (b < s .n)
 
 -- the edge a-b is the edge b-a
-pub joined-turn : (a b : ℕ) (s t : State) → Joined a b s t → Joined b a s t
+pub joined-turn : (a b : ℕ) (s t : State) → EdgeMore a b s t → EdgeMore b a s t
 joined-turn a b s t J = record {
   size = J .size;
   rank = J .rank;
@@ -37,7 +37,7 @@ joined-turn a b s t J = record {
   inside = (J .inside .1, J .inside .0);
 }
 
-module _ (a b : ℕ) (s t : State) (J : Joined a b s t) where
+module _ (a b : ℕ) (s t : State) (J : EdgeMore a b s t) where
   -- any other edge is there or not there in both
   edge-same : (v w : ℕ) → (v ≡ a → w ≢ b) → (v ≡ b → w ≢ a) → edge t v w ≡ edge s v w
   edge-same v w f g =
@@ -135,7 +135,7 @@ module _ (a b : ℕ) (s t : State) (J : Joined a b s t) where
       )
 
 -- one edge more
-pub edges-more : (a b : ℕ) (s t : State) → Joined a b s t → edges t ≡ suc (edges s)
+pub edges-more : (a b : ℕ) (s t : State) → EdgeMore a b s t → edges t ≡ suc (edges s)
 edges-more a b s t J = elim (le? b a) [
   | inl l ↦ edges-up b a s t (joined-turn a b s t J) (omega (arith, J .apart))
   | inr l ↦ edges-up a b s t J l

@@ -14,7 +14,7 @@ use Rattle.model.proofs.Lists.{upd-same, upd-other}
 use Rattle.moves.specs.Proper.{Held}
 use Rattle.moves.specs.Counts.{less}
 use Rattle.moves.proofs.Held.{held-rank}
-use Rattle.edges.proofs.Joined.{Joined, joined-turn, phi-more, phi-still, phi-other}
+use Rattle.edges.proofs.Joined.{EdgeMore, joined-turn, phi-more, phi-still, phi-other}
 
 -- j is the higher of the ranks of a and b
 pub record Higher (a b j : ℕ) (s : State) : Type 0 where
@@ -51,9 +51,9 @@ turn (inl x) = inr x
 turn (inr x) = inl x
 
 -- an edge more, and an edge less
-pub gained : (a b j : ℕ) (s t : State) → Joined a b s t → Higher a b j s → Shifted a b j suc s t
+pub gained : (a b j : ℕ) (s t : State) → EdgeMore a b s t → Higher a b j s → Shifted a b j suc s t
 gained a b j s t J h =
-    let K : Joined b a s t = joined-turn a b s t J in
+    let K : EdgeMore b a s t = joined-turn a b s t J in
     record {
       apart = J .apart;
       on-a = λ x l. phi-more a b s t J x (omega (arith, h .a-low)) (omega (arith, h .b-low));

@@ -11,27 +11,27 @@ use Rattle.changes.specs.declared.Answer.{Answer}
 use Rattle.engine.specs.Answers.{ChangeIs}
 
 -- one call: what was asked, what it answered, and the rack's bytes after it
-pub record Made : Type 0 where
+pub record CallMade : Type 0 where
   pub change : Change
   pub answer : Answer
   pub after : List ℕ
 
 -- each call meets the contract of `engine::change`
-unfoldable pub Series : List ℕ → List Made → Type 0
+unfoldable pub Series : List ℕ → List CallMade → Type 0
 Series bs [] = Unit
 Series bs (d ∷ ds) = ChangeIs bs (d .change) (d .answer) (d .after) × Series (d .after) ds
 
 -- the changes that were asked for, and the bytes after the last call
-unfoldable pub asked : List Made → List Change
+unfoldable pub asked : List CallMade → List Change
 asked [] = []
 asked (d ∷ ds) = d .change ∷ asked ds
 
-unfoldable pub left : List ℕ → List Made → List ℕ
+unfoldable pub left : List ℕ → List CallMade → List ℕ
 left bs [] = bs
 left bs (d ∷ ds) = left (d .after) ds
 
 -- what a call gave; its new pairs are the definition's
-unfoldable pub gave : List ℕ → Made → ChangedBytes
+unfoldable pub gave : List ℕ → CallMade → ChangedBytes
 gave bs d = record {
   answer = record { number = d .answer .number; draws = d .answer .draws; falls = d .answer .falls; pairs = d .answer .pairs };
   rack = d .after;
@@ -39,11 +39,11 @@ gave bs d = record {
 }
 
 -- each call gave what demand 3 says of a call, by the ledger as it then stands
-unfoldable pub Right : Ledger → List ℕ → List Made → Type 0
+unfoldable pub Right : Ledger → List ℕ → List CallMade → Type 0
 Right l bs [] = Unit
 Right l bs (d ∷ ds) = Call l bs (d .change) (gave bs d) × Right (entered l (d .change)) (d .after) ds
 
 -- demand 3 of the calls made
-pub record Kept (l : Ledger) (bs : List ℕ) (ds : List Made) : Type 0 where
+pub record SeriesDemand (l : Ledger) (bs : List ℕ) (ds : List CallMade) : Type 0 where
   pub calls : Right l bs ds
   pub last : Facts (enteredAll l (asked ds)) (left bs ds)

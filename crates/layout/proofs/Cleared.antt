@@ -13,7 +13,7 @@ use Rattle.model.proofs.Tests.{bool?, T-true, T-false, and-right}
 use Rattle.model.proofs.Counting.{count-none, sum-eq, sum-zero}
 use Rattle.model.proofs.Limits.{mateEntry-free}
 use Rattle.layout.specs.Setters.{blanked}
-use Rattle.layout.proofs.Images.{Alike, image-ext}
+use Rattle.layout.proofs.Images.{SameFields, image-ext}
 
 -- what the code leaves, computed
 pub blank-is : putMid 264 512 (replicate 9992 0) (replicate 512 255) ≡ blanked
@@ -42,7 +42,7 @@ no-edges : (n : ℕ) → edges (empty n) ≡ 0
 unfolding edges edge empty
 no-edges n = sum-eq _ (λ v. 0) n (λ v l. count-none _ n (λ w k h. and-right (ltb v w) false h)) ∙ sum-zero n
 
-alike : (n : ℕ) → Alike (bare n) (fieldsOf (empty n))
+alike : (n : ℕ) → SameFields (bare n) (fieldsOf (empty n))
 unfolding bare fieldsOf empty
 alike n = record {
   n = refl;

@@ -47,7 +47,7 @@ module _ (f : Fields) where
 -- ---- images by their fields
 
 -- fields that are the same wherever an image shows them
-pub record Alike (f g : Fields) : Type 0 where
+pub record SameFields (f g : Fields) : Type 0 where
   pub n : f .n ≡ g .n
   pub edges : f .edges ≡ g .edges
   pub rank : (v : ℕ) → v < 256 → f .rank v ≡ g .rank v
@@ -55,7 +55,7 @@ pub record Alike (f g : Fields) : Type 0 where
   pub phi : (v j : ℕ) → v < 256 → j < 4 → f .phi v j ≡ g .phi v j
   pub owns : (v w : ℕ) → v < 256 → w < 256 → f .owns v w ≡ g .owns v w
 
-pub image-ext : (f g : Fields) → Alike f g → image f ≡ image g
+pub image-ext : (f g : Fields) → SameFields f g → image f ≡ image g
 image-ext f g a =
     let h : heads f ≡ heads g = ap₂ (λ (n e : ℕ). two n ++ (two e ++ replicate 4 0)) (a .n) (a .edges) in
     let r : ranks f ≡ ranks g = each-one-ext (f .rank) (g .rank) 256 (a .rank) in

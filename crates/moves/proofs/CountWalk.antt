@@ -48,7 +48,7 @@ module _ (s : State) (g : ℕ → ℕ → ℕ) (bs : List ℕ) (e : Counted s g 
 -- ---- the walk
 
 -- the vertices below w have their new counts, the others the old ones, and u owns the edge to w if there is such a vertex
-pub record Walked (s : State) (new : ℕ → ℕ → ℕ) (u : ℕ) (bs : List ℕ) (w : ℕ) : Type 0 where
+pub record RowCounted (s : State) (new : ℕ → ℕ → ℕ) (u : ℕ) (bs : List ℕ) (w : ℕ) : Type 0 where
   pub counts : ℕ → ℕ → ℕ
   pub is : Counted s counts bs
   pub done : (x j : ℕ) → x < w → counts x j ≡ new x j
@@ -60,7 +60,7 @@ abbrev pub Quiet : State → (ℕ → ℕ → ℕ) → ℕ → Type 0
 Quiet s new u = (x j : ℕ) → (T (s .owns u x) → ⊥) → new x j ≡ phi s x j
 
 module _ (s : State) (new : ℕ → ℕ → ℕ) (u : ℕ) (quiet : Quiet s new u) where
-  pub walk-start : (bs : List ℕ) (r : ℕ) → bs ≡ write s → NextIn s u 0 r → Walked s new u bs r
+  pub walk-start : (bs : List ℕ) (r : ℕ) → bs ≡ write s → NextIn s u 0 r → RowCounted s new u bs r
   walk-start bs r e n =
       record {
         counts = phi s;
@@ -71,8 +71,8 @@ module _ (s : State) (new : ℕ → ℕ → ℕ) (u : ℕ) (quiet : Quiet s new 
       }
 
   -- one vertex more, and on to the next
-  pub walk-step : (bs : List ℕ) (w : ℕ) (k : Walked s new u bs w) (next : List ℕ) (r : ℕ)
-      → Counted s (upd (k .counts) w (new w)) next → NextIn s u (w + 1) r → Walked s new u next r
+  pub walk-step : (bs : List ℕ) (w : ℕ) (k : RowCounted s new u bs w) (next : List ℕ) (r : ℕ)
+      → Counted s (upd (k .counts) w (new w)) next → NextIn s u (w + 1) r → RowCounted s new u next r
   walk-step bs w k next r e n =
       let other : (x j : ℕ) → x ≢ w → upd (k .counts) w (new w) x j ≡ k .counts x j =
       λ x j d. ap (λ (f : ℕ → ℕ). f j) (upd-other (k .counts) w (new w) x d) in
@@ -91,7 +91,7 @@ module _ (s : State) (new : ℕ → ℕ → ℕ) (u : ℕ) (quiet : Quiet s new 
       }
 
   -- the row is walked
-  pub walk-end : Proper s → (bs : List ℕ) (w : ℕ) → s .n ≤ w → Walked s new u bs w → Counted s new bs
+  pub walk-end : Proper s → (bs : List ℕ) (w : ℕ) → s .n ≤ w → RowCounted s new u bs w → Counted s new bs
   unfolding withCounts
   walk-end p bs w l k =
       k .is ∙ counts-ext (withCounts (fieldsOf s) (k .counts)) new (λ x j. elim (le? w x) [
@@ -109,12 +109,12 @@ module _ {bs₀ : List ℕ} {new : ℕ → ℕ → ℕ} {u : ℕ} (W : Walk bs�
   pub u-small : u < 256
   u-small = held-small (W .held) u (W .inside)
 
-  pub row-starts : {r : ℕ} → NextOwned bs₀ u 0 r → Walked (read bs₀) new u bs₀ r
+  pub row-starts : {r : ℕ} → NextOwned bs₀ u 0 r → RowCounted (read bs₀) new u bs₀ r
   row-starts {r} n =
       walk-start (read bs₀) new u (W .quiet) bs₀ r (W .held .written)
       (next-in (read bs₀) (W .held .proper) bs₀ (held-owns (W .held)) u 0 r u-small n)
 
-  module _ {bs : List ℕ} {n w : ℕ} (k : Walked (read bs₀) new u bs w) (size : n ≡ sizeAt bs₀) where
+  module _ {bs : List ℕ} {n w : ℕ} (k : RowCounted (read bs₀) new u bs w) (size : n ≡ sizeAt bs₀) where
     pub w-inside : w < n → w < read bs₀ .n
     w-inside l = omega (arith, held-size (W .held))
 
@@ -128,7 +128,7 @@ module _ {bs₀ : List ℕ} {new : ℕ → ℕ → ℕ} {u : ℕ} (W : Walk bs�
     w-sized = counted-sized (read bs₀) (k .counts) bs (k .is)
 
     pub row-goes-on : {next : List ℕ} {r : ℕ} → Counted (read bs₀) (upd (k .counts) w (new w)) next → NextOwned next u (w + 1) r
-        → Walked (read bs₀) new u next r
+        → RowCounted (read bs₀) new u next r
     row-goes-on {next} {r} e n =
         walk-step (read bs₀) new u (W .quiet) bs w k next r e
         (next-in (read bs₀) (W .held .proper) next (counted-owns (read bs₀) _ next e) u (w + 1) r u-small n)
@@ -155,7 +155,7 @@ pub raised-quiet : (s : State) (i v : ℕ) → Quiet s (raisedCounts s i v) v
 raised-quiet s i v x j d = raised-no s i v x j (λ t. absurd (d t))
 
 -- one count raised
-pub raised-turn : (s : State) (i v : ℕ) (bs : List ℕ) (w : ℕ) (k : Walked s (raisedCounts s i v) v bs w) (next : List ℕ) (y : ℕ)
+pub raised-turn : (s : State) (i v : ℕ) (bs : List ℕ) (w : ℕ) (k : RowCounted s (raisedCounts s i v) v bs w) (next : List ℕ) (y : ℕ)
     → w < 256 → i < 4 → T (s .owns v w) → y ≡ phiAt bs w i → next ≡ setPhi bs w i (y + 1)
     → Counted s (upd (k .counts) w (raisedCounts s i v w)) next
 unfolding withCounts
@@ -179,7 +179,7 @@ pub lowered-quiet : (s : State) (i u : ℕ) → Quiet s (loweredCounts s i u) u
 lowered-quiet s i u x j d = lowered-no s i u x j (λ t. d (hit-says s i u x j t .owned))
 
 -- the counts of one vertex lowered
-pub lowered-turn : (s : State) (i u : ℕ) (bs : List ℕ) (w : ℕ) (k : Walked s (loweredCounts s i u) u bs w) (next : List ℕ)
+pub lowered-turn : (s : State) (i u : ℕ) (bs : List ℕ) (w : ℕ) (k : RowCounted s (loweredCounts s i u) u bs w) (next : List ℕ)
     → w < 256 → i < 4 → T (s .owns u w) → (j : ℕ) → s .rank u ≤ j → s .rank w ≤ j → ((x : ℕ) → s .rank u ≤ x → s .rank w ≤ x → j ≤ x)
     → j ≤ i → next ≡ recounted less bs w j (i + 1 - j) → Counted s (upd (k .counts) w (loweredCounts s i u w)) next
 unfolding withCounts

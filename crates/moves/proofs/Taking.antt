@@ -39,12 +39,12 @@ pub record Taking (s : State) (i u : ℕ) (bs : List ℕ) (missing k : ℕ) : Ty
   pub within : k ≤ s .n
 
 -- u may rise to i: it owns edges to vertices below i alone
-pub record Riser (s : State) (i u : ℕ) : Type 0 where
+pub record CanRise (s : State) (i u : ℕ) : Type 0 where
   pub proper : Proper s
   pub within : u < s .n
   pub low : (w : ℕ) → T (s .owns u w) → s .rank w ≤ i
 
-module _ {s : State} {i u : ℕ} (q : Riser s i u) where
+module _ {s : State} {i u : ℕ} (q : CanRise s i u) where
   small : (w : ℕ) → w < s .n → w < 256
   small w k = omega (arith, q .proper .few)
 

@@ -76,7 +76,7 @@ going-start heads words n rack out ok r = record {
 }
 
 -- what stands in the places of a change
-pub record Next (heads words : List ℕ) (k w : ℕ) (c : Change) : Type 0 where
+pub record StoredChange (heads words : List ℕ) (k w : ℕ) (c : Change) : Type 0 where
   pub code : getD heads (4 * k) 0 ≡ c .code
   pub a : getD heads (4 * k + 1) 0 ≡ c .a
   pub b : getD heads (4 * k + 2) 0 ≡ c .b
@@ -91,9 +91,9 @@ module _ {heads words : List ℕ} {n : ℕ} {rack₀ rack out₀ out : List ℕ}
     pub change : Change
     pub later : List Change
     pub are : g .rest ≡ change ∷ later
-    pub next : Next heads words k w change
+    pub next : StoredChange heads words k w change
 
-  next-of : (c : Change) (cs : List Change) → g .rest ≡ c ∷ cs → Next heads words k w c
+  next-of : (c : Change) (cs : List Change) → g .rest ≡ c ∷ cs → StoredChange heads words k w c
   unfolding texts
   next-of c cs e =
       let h : drop (4 * k) heads ≡ headOf c ++ (texts headOf cs ++ g .heads-rest) =

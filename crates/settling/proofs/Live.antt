@@ -16,7 +16,7 @@ use Rattle.theory.proofs.Ownership.{out, back, rest, turned}
 use Rattle.moves.specs.Proper.{Proper, Ordered, RowBelow}
 use Rattle.moves.proofs.Edges.{edge-of, near-of, near-edge, near-low}
 use Rattle.settling.specs.Settling.{visited}
-use Rattle.settling.proofs.Steps.{Kept, part-kept, rise-edge, lift-kept, lift-below, near-inside, chosen-near, due-low}
+use Rattle.settling.proofs.Steps.{SameEdges, part-kept, rise-edge, lift-kept, lift-below, near-inside, chosen-near, due-low}
 use Rattle.settling.proofs.News.{visited-yes, visited-no, upto-none, upto-yes, upto-no}
 use Rattle.settling.proofs.Kept.{upto-kept}
 
@@ -56,7 +56,7 @@ module _ (i v : ℕ) (p : ℕ → Bool) where
   }
 
   live-lift : (x : ℕ) (t : State) → Proper t → Ordered t → x < t .n → Live i v p t → Live i v p (rise i x (part x t))
-  live-lift x t q o l h = let a : Kept t (part x t) = part-kept t q o x l in live-rise x (part x t) (a .proper) (a .ordered) (live-part x t h)
+  live-lift x t q o l h = let a : SameEdges t (part x t) = part-kept t q o x l in live-rise x (part x t) (a .proper) (a .ordered) (live-part x t h)
 
   live-draw : (words : List ℕ) (u : ℕ) (r : Run) → Proper (r .state) → Ordered (r .state) → 1 ≤ below (r .state) u i → Live i v p (r .state)
       → Live i v p (draw words i u r .state)
@@ -71,7 +71,7 @@ module _ (i v : ℕ) (p : ℕ → Bool) where
   unfolding promote
   live-promote words u r q o l k m b h =
       let s : State = r .state in
-      let a : Kept s (rise i u (part u s)) = lift-kept s q o i u l m k in
+      let a : SameEdges s (rise i u (part u s)) = lift-kept s q o i u l m k in
       live-draw words u (at r (rise i u (part u s))) (a .proper) (a .ordered) (omega (arith, lift-below s q o i u l)) (live-lift u s q o l h)
 
   live-visited : (words : List ℕ) (w : ℕ) (r : Run) → Proper (r .state) → Ordered (r .state) → w < r .state .n → i ≤ base .top
@@ -84,7 +84,7 @@ module _ (i v : ℕ) (p : ℕ → Bool) where
 
 -- The scan from a run whose row of v holds exactly v's neighbours below level i.
 module _ (words : List ℕ) (i v : ℕ) (r : Run) (q : Proper (r .state)) (o : Ordered (r .state)) (k : i ≤ base .top) (f : RowBelow i v (r .state)) where
-  pub scanned-kept : (m : ℕ) → Kept (r .state) (scanUpto base words i (r .state .owns v) m r .state)
+  pub scanned-kept : (m : ℕ) → SameEdges (r .state) (scanUpto base words i (r .state .owns v) m r .state)
   scanned-kept m = upto-kept words i (r .state .owns v) r q o k (λ w t. q .inside v w t .1) m
 
   pub scanned-live : (m : ℕ) → Live i v (r .state .owns v) (scanUpto base words i (r .state .owns v) m r .state)
@@ -92,7 +92,7 @@ module _ (words : List ℕ) (i v : ℕ) (r : Run) (q : Proper (r .state)) (o : O
       rw (upto-none base words i (r .state .owns v) r) (record { near = λ x t. subst T (sym (f x)) t; from = λ x t. t })
   scanned-live (suc m) =
       let p : ℕ → Bool = r .state .owns v in
-      let a : Kept (r .state) (scanUpto base words i p m r .state) = scanned-kept m in
+      let a : SameEdges (r .state) (scanUpto base words i p m r .state) = scanned-kept m in
       elim (holds? (p m)) [
         | inl t ↦ rw (upto-yes base words i p m r t)
             (live-visited i v p words m (scanUpto base words i p m r) (a .proper) (a .ordered) (omega (arith, a .size, q .inside v m t .1)) k (scanned-live m))

@@ -15,28 +15,28 @@ use Rattle.theory.proofs.Loops.{scanStep, scanUpto, scanFrom-loop}
 use Rattle.settling.specs.Settling.{visited}
 
 -- runs that differ in their new pairs alone
-pub record Same (r q : Run) : Type 0 where
+pub record SameRun (r q : Run) : Type 0 where
   pub state : r .state ≡ q .state
   pub draws : r .draws ≡ q .draws
   pub falls : r .falls ≡ q .falls
 
-pub same-then : {r q p : Run} → Same r q → Same q p → Same r p
+pub same-then : {r q p : Run} → SameRun r q → SameRun q p → SameRun r p
 same-then a b = record { state = a .state ∙ b .state; draws = a .draws ∙ b .draws; falls = a .falls ∙ b .falls }
 
-pub same-of : {r q : Run} → r ≡ q → Same r q
+pub same-of : {r q : Run} → r ≡ q → SameRun r q
 same-of e = record { state = ap (λ (x : Run). x .state) e; draws = ap (λ (x : Run). x .draws) e; falls = ap (λ (x : Run). x .falls) e }
 
 -- the run on another state
-pub at-same : {r q : Run} → Same r q → (f : State → State) → Same (at r (f (r .state))) (at q (f (q .state)))
+pub at-same : {r q : Run} → SameRun r q → (f : State → State) → SameRun (at r (f (r .state))) (at q (f (q .state)))
 at-same e f = record { state = ap f (e .state); draws = e .draws; falls = e .falls }
 
-module _ (words : List ℕ) (i u : ℕ) {r q : Run} (e : Same r q) where
+module _ (words : List ℕ) (i u : ℕ) {r q : Run} (e : SameRun r q) where
   pub chosen-same : chosen words i u r ≡ chosen words i u q
   unfolding chosen
   chosen-same = λ k. getD (listed (near (e .state k) u i) (e .state k .n))
       (place words (e .draws k) (length (listed (near (e .state k) u i) (e .state k .n)))) 0
 
-  pub draw-same : Same (draw words i u r) (draw words i u q)
+  pub draw-same : SameRun (draw words i u r) (draw words i u q)
   unfolding draw drawn
   draw-same = record {
     state = λ k. marry u (chosen-same k) (rise i (chosen-same k) (part (chosen-same k) (e .state k)));
@@ -44,7 +44,7 @@ module _ (words : List ℕ) (i u : ℕ) {r q : Run} (e : Same r q) where
     falls = e .falls;
   }
 
-pub promote-same : (words : List ℕ) (i u : ℕ) {r q : Run} → Same r q → Same (promote words i u r) (promote words i u q)
+pub promote-same : (words : List ℕ) (i u : ℕ) {r q : Run} → SameRun r q → SameRun (promote words i u r) (promote words i u q)
 unfolding promote
 promote-same words i u e = draw-same words i u (at-same e (λ s. rise i u (part u s)))
 
@@ -58,7 +58,7 @@ module _ (R : Rules) (words : List ℕ) (i : ℕ) where
   unfolding visited
   visited-no w r t = rw (T-false {b = due R i w (r .state)} t, visited) refl
 
-  pub visited-same : (w : ℕ) {r q : Run} → Same r q → Same (visited R words i w r) (visited R words i w q)
+  pub visited-same : (w : ℕ) {r q : Run} → SameRun r q → SameRun (visited R words i w r) (visited R words i w q)
   visited-same w {r} {q} e = elim (holds? (due R i w (r .state))) [
     | inl t ↦ same-then (same-of (visited-yes w r t)) (same-then (promote-same words i w e)
         (same-of (sym (visited-yes w q (subst (λ (s : State). T (due R i w s)) (e .state) t)))))
@@ -79,17 +79,17 @@ module _ (R : Rules) (words : List ℕ) (i : ℕ) where
     unfolding scanUpto
     upto-no m r t = rw (T-false {b = p m} t, scanUpto) refl
 
-    pub upto-same : (m : ℕ) {r q : Run} → Same r q → Same (scanUpto R words i p m r) (scanUpto R words i p m q)
+    pub upto-same : (m : ℕ) {r q : Run} → SameRun r q → SameRun (scanUpto R words i p m r) (scanUpto R words i p m q)
     upto-same zero {r} {q} e = same-then (same-of (upto-none r)) (same-then e (same-of (sym (upto-none q))))
     upto-same (suc m) {r} {q} e = elim (holds? (p m)) [
       | inl t ↦ same-then (same-of (upto-yes m r t)) (same-then (visited-same m (upto-same m e)) (same-of (sym (upto-yes m q t))))
       | inr t ↦ same-then (same-of (upto-no m r t)) (same-then (upto-same m e) (same-of (sym (upto-no m q t))))
     ]
 
-  pub scanFrom-same : (v : ℕ) {r q : Run} → Same r q → Same (scanFrom R words i v r) (scanFrom R words i v q)
+  pub scanFrom-same : (v : ℕ) {r q : Run} → SameRun r q → SameRun (scanFrom R words i v r) (scanFrom R words i v q)
   scanFrom-same v {r} {q} e =
       same-then (same-of (scanFrom-loop R words i v r)) (same-then
-      (subst (λ (s : State). Same (scanUpto R words i (r .state .owns v) (r .state .n) r) (scanUpto R words i (s .owns v) (s .n) q)) (e .state)
+      (subst (λ (s : State). SameRun (scanUpto R words i (r .state .owns v) (r .state .n) r) (scanUpto R words i (s .owns v) (s .n) q)) (e .state)
       (upto-same (r .state .owns v) (r .state .n) e)) (same-of (sym (scanFrom-loop R words i v q))))
 
 -- How many draws and falls: one draw more at most for each vertex visited.

@@ -19,7 +19,7 @@ use Rattle.moves.proofs.Pairs.{entry-free as entry-alone}
 use Rattle.settling.specs.Settling.{HoldsPending}
 
 -- `at` is the first free vertex of rank best
-pub record First (s : State) (best at : ℕ) : Type 0 where
+pub record FirstFree (s : State) (best at : ℕ) : Type 0 where
   pub inside : at < s .n
   pub free : s .mate at ≡ at
   pub rank : s .rank at ≡ best
@@ -28,7 +28,7 @@ pub record First (s : State) (best at : ℕ) : Type 0 where
 -- what the pass has found before v: no free vertex there has a rank above best, and `at` is the first of rank best, if best is not 0
 pub record Best (s : State) (best at v : ℕ) : Type 0 where
   pub high : (w : ℕ) → w < v → w < s .n → s .mate w ≡ w → s .rank w ≤ best
-  pub is : 1 ≤ best → First s best at
+  pub is : 1 ≤ best → FirstFree s best at
 
 module _ (row : List ℕ) (s : State) (h : HoldsPending row s) where
   -- the row holds every free vertex of a rank from 1 on, so those that a step passes over have rank 0
@@ -72,7 +72,7 @@ best-nothing s best at v m g l e = pick-nothing m s (λ w b f. omega (arith, g .
 pub best-found : (s : State) (best at v : ℕ) → Proper s → Best s best at v → s .n ≤ v → 1 ≤ best
     → pick (suc (base .top)) s ≡ found (best - 1) at
 best-found s best at v p g l k =
-    let a : First s best at = g .is k in
+    let a : FirstFree s best at = g .is k in
     pick-found (suc (base .top)) (best - 1) at s (omega (arith, p .ranks at, a .rank)) (a .inside) (a .free) (omega (arith, a .rank))
     (λ w b f. omega (arith, g .high w (omega arith) b f))
     (λ w b f e. omega (arith, a .lower w b f))

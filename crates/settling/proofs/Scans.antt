@@ -18,12 +18,12 @@ use Rattle.moves.specs.Proper.{Proper, Ordered, Held, RowBelow}
 use Rattle.moves.proofs.Held.{reads-as, held-of, held-owns, held-small, NextIn, next-in}
 use Rattle.settling.specs.Settling.{running, HoldsPending, Left, visited}
 use Rattle.settling.specs.declared.Tally.{Tally}
-use Rattle.settling.proofs.Steps.{Kept}
-use Rattle.settling.proofs.News.{Same, visited-same, upto-none, upto-yes, upto-room}
+use Rattle.settling.proofs.Steps.{SameEdges}
+use Rattle.settling.proofs.News.{SameRun, visited-same, upto-none, upto-yes, upto-room}
 use Rattle.settling.proofs.Live.{scanned-kept, scanned-live, scanned-over}
 
 -- what is left of a run is left of one that differs in its new pairs alone
-pub left-same : {r q : Run} {bs row : List ℕ} {t : Tally} → Same r q → Left r bs row t → Left q bs row t
+pub left-same : {r q : Run} {bs row : List ℕ} {t : Tally} → SameRun r q → Left r bs row t → Left q bs row t
 left-same {row} e a = record {
   rack = a .rack ∙ ap write (e .state);
   draws = a .draws ∙ e .draws;
@@ -36,11 +36,11 @@ pub left-sized : {r : Run} {bs row : List ℕ} {t : Tally} → Left r bs row t �
 left-sized {r} a = ap length (a .rack) ∙ write-length (r .state)
 
 -- and where its state is proper, they hold that state
-pub left-run : {r : Run} {bs row : List ℕ} {t : Tally} → Left r bs row t → Proper (r .state) → Same (running bs t) r
+pub left-run : {r : Run} {bs row : List ℕ} {t : Tally} → Left r bs row t → Proper (r .state) → SameRun (running bs t) r
 left-run {r} {bs} a p = record { state = reads-as bs (r .state) (a .rack) p; draws = a .draws; falls = a .falls }
 
 -- where the scan begins: v's row holds exactly its neighbours below level i
-pub record Begun (words : List ℕ) (i v : ℕ) (bs₀ : List ℕ) (t₀ : Tally) : Type 0 where
+pub record ScanFrom (words : List ℕ) (i v : ℕ) (bs₀ : List ℕ) (t₀ : Tally) : Type 0 where
   pub held : Held bs₀
   pub ordered : Ordered (read bs₀)
   pub inside : v < read bs₀ .n
@@ -53,12 +53,12 @@ pub record Scanning (words : List ℕ) (i v : ℕ) (bs₀ : List ℕ) (t₀ : Ta
   pub within : w ≤ most
   pub is : w < read bs₀ .n → T (read bs .owns v w)
 
-module _ {words : List ℕ} {i v : ℕ} {bs₀ : List ℕ} {t₀ : Tally} (a : Begun words i v bs₀ t₀) where
+module _ {words : List ℕ} {i v : ℕ} {bs₀ : List ℕ} {t₀ : Tally} (a : ScanFrom words i v bs₀ t₀) where
   -- the run after the turns of the vertices below w
   done : ℕ → Run
   done w = scanUpto base words i (read bs₀ .owns v) w (running bs₀ t₀)
 
-  done-kept : (w : ℕ) → Kept (read bs₀) (done w .state)
+  done-kept : (w : ℕ) → SameEdges (read bs₀) (done w .state)
   unfolding done
   done-kept w = scanned-kept words i v (running bs₀ t₀) (a .held .proper) (a .ordered) (a .level) (a .row) w
 
@@ -66,7 +66,7 @@ module _ {words : List ℕ} {i v : ℕ} {bs₀ : List ℕ} {t₀ : Tally} (a : B
   next-done : (m : ℕ) {bs row : List ℕ} {t : Tally} {w : ℕ} → Left (done m) bs row t → NextOwned bs v m w → Scanning words i v bs₀ t₀ bs row t w
   unfolding done
   next-done m {bs} {row} {t} {w} l n =
-      let q : Kept (read bs₀) (done m .state) = done-kept m in
+      let q : SameEdges (read bs₀) (done m .state) = done-kept m in
       let e : read bs ≡ done m .state = reads-as bs (done m .state) (l .rack) (q .proper) in
       let g : Held bs = held-of bs (done m .state) (l .rack) (q .proper) in
       let x : NextIn (read bs) v m w = next-in (read bs) (g .proper) bs (held-owns g) v m w (held-small (a .held) v (a .inside)) n in
@@ -91,7 +91,7 @@ module _ {words : List ℕ} {i v : ℕ} {bs₀ : List ℕ} {t₀ : Tally} (a : B
         → (Held bs × Ordered (read bs)) × (((w < read bs .n) × (i ≤ base .top)) × (HoldsPending row (read bs) × (t .draws ≤ 1000000)))
     unfolding done
     scan-visits b d =
-        let q : Kept (read bs₀) (done w .state) = done-kept w in
+        let q : SameEdges (read bs₀) (done w .state) = done-kept w in
         let e : read bs ≡ done w .state = reads-as bs (done w .state) (g .left .rack) (q .proper) in
         let m = upto-room words i base (read bs₀ .owns v) w (running bs₀ t₀) .0 in
         subst (λ (s : State). (Held bs × Ordered s) × (((w < s .n) × (i ≤ base .top)) × (HoldsPending row s × (t .draws ≤ 1000000)))) (sym e) (
@@ -106,7 +106,7 @@ module _ {words : List ℕ} {i v : ℕ} {bs₀ : List ℕ} {t₀ : Tally} (a : B
         → NextOwned bs′ v (w + 1) w′ → Scanning words i v bs₀ t₀ bs′ row′ t′ w′
     unfolding done
     scan-again b {bs′} {row′} {t′} {w′} c n =
-        let e : Same (running bs t) (done w) = left-run (g .left) (done-kept w .proper) in
+        let e : SameRun (running bs t) (done w) = left-run (g .left) (done-kept w .proper) in
         let p : T (read bs₀ .owns v w) =
         scanned-live words i v (running bs₀ t₀) (a .held .proper) (a .ordered) (a .level) (a .row) w .from w
         (subst (λ (s : State). T (s .owns v w)) (e .state) (g .is b)) in
@@ -119,7 +119,7 @@ module _ {words : List ℕ} {i v : ℕ} {bs₀ : List ℕ} {t₀ : Tally} (a : B
     unfolding done
     scan-ends b =
         let n : ℕ = read bs₀ .n in
-        let q : Kept (read bs₀) (done n .state) = done-kept n in
+        let q : SameEdges (read bs₀) (done n .state) = done-kept n in
         subst (λ (r : Run). Left r bs row t)
         (scanned-over words i v (running bs₀ t₀) (a .held .proper) (a .ordered) (a .level) (a .row) n w b
         (λ y c d x. omega (arith, q .proper .inside v y x .1, q .size)) ∙ sym (scanFrom-loop base words i v (running bs₀ t₀))) (g .left)

@@ -15,16 +15,16 @@ use Rattle.moves.proofs.Held.{reads-as, held-of, held-size}
 use Rattle.settling.specs.declared.Tally.{Tally}
 use Rattle.settling.specs.Settling.{running, HoldsPending, Room, Left}
 use Rattle.settling.proofs.News.{same-then}
-use Rattle.settling.proofs.Kept.{Kept, Same, take-kept, take-room, take-same}
+use Rattle.settling.proofs.Kept.{SameEdges, SameRun, take-kept, take-room, take-same}
 
 -- Runs that differ in their new pairs alone settle alike: the pick sees the state alone.
-pub settle-same : (words : List ℕ) (f : ℕ) (r q : Run) → Same r q → Same (settleIn base words f r) (settleIn base words f q)
+pub settle-same : (words : List ℕ) (f : ℕ) (r q : Run) → SameRun r q → SameRun (settleIn base words f r) (settleIn base words f q)
 unfolding settleIn
 settle-same words zero r q s = s
 settle-same words (suc f) r q s = go (settle-same words f) (pick (suc (base .top)) (r .state)) refl
   where
-    go : ((a b : Run) → Same a b → Same (settleIn base words f a) (settleIn base words f b))
-        → (x : Found) → pick (suc (base .top)) (r .state) ≡ x → Same (settleIn base words (suc f) r) (settleIn base words (suc f) q)
+    go : ((a b : Run) → SameRun a b → SameRun (settleIn base words f a) (settleIn base words f b))
+        → (x : Found) → pick (suc (base .top)) (r .state) ≡ x → SameRun (settleIn base words (suc f) r) (settleIn base words (suc f) q)
     go ih none e =
         rw (settle-rest base words (suc f) r e, settle-rest base words (suc f) q (ap (pick (suc (base .top))) (sym (s .state)) ∙ e)) s
     go ih (found i v) e =
@@ -32,24 +32,24 @@ settle-same words (suc f) r q s = go (settle-same words f) (pick (suc (base .top
         (ih (take base words i v r) (take base words i v q) (take-same words i v r q s))
 
 -- what a taking asks of the vertex picked
-pub record Taking (s : State) (i v : ℕ) : Type 0 where
+pub record Takable (s : State) (i v : ℕ) : Type 0 where
   pub inside : v < s .n
   pub free : s .mate v ≡ v
   pub rank : s .rank v ≡ suc i
   pub level : i ≤ base .top
 
-pub taking-of : (s : State) (i v : ℕ) → Proper s → pick (suc (base .top)) s ≡ found i v → Taking s i v
+pub taking-of : (s : State) (i v : ℕ) → Proper s → pick (suc (base .top)) s ≡ found i v → Takable s i v
 taking-of s i v p e =
     let h : Highest s (suc (base .top)) (found i v) = subst (Highest s (suc (base .top))) e (pick-highest s (suc (base .top))) in
     record { inside = h .0; free = h .1 .0; rank = h .1 .1 .0; level = omega (arith, p .ranks v, h .1 .1 .0) }
 
 -- Before each taking: `left` more takings from the bytes and the tally on lead to where the settling of r leads, and the tally has room
 -- for them.
-pub record Going (words : List ℕ) (r : Run) (bs row : List ℕ) (left : ℕ) (t : Tally) : Type 0 where
+pub record TakingsLeft (words : List ℕ) (r : Run) (bs row : List ℕ) (left : ℕ) (t : Tally) : Type 0 where
   pub held : Held bs
   pub ordered : Ordered (read bs)
   pub pends : HoldsPending row (read bs)
-  pub ahead : Same (settleIn base words left (running bs t)) (settle base words r)
+  pub ahead : SameRun (settleIn base words left (running bs t)) (settle base words r)
   pub draws : t .draws + 257 * left ≤ 300000
   pub falls : t .falls + left ≤ 300000
 
@@ -63,7 +63,7 @@ module _ {bs : List ℕ} (h : Held bs) (n top : ℕ) (e : n ≡ sizeAt bs) (f : 
   takings-few = rw takings (omega (arith, h .proper .few))
 
 pub going-start : (words bs row : List ℕ) (left : ℕ) (t : Tally) → Held bs → Ordered (read bs) → HoldsPending row (read bs) → Room 1 0 t
-    → left ≡ read bs .n * suc (base .top) → Going words (running bs t) bs row left t
+    → left ≡ read bs .n * suc (base .top) → TakingsLeft words (running bs t) bs row left t
 unfolding settle base
 going-start words bs row left t h o w m e = record {
   held = h;
@@ -74,14 +74,14 @@ going-start words bs row left t h o w m e = record {
   falls = omega (arith, m .falls, h .proper .few);
 }
 
-module _ {words : List ℕ} {r : Run} {bs row : List ℕ} {left : ℕ} {t : Tally} (g : Going words r bs row left t) where
+module _ {words : List ℕ} {r : Run} {bs row : List ℕ} {left : ℕ} {t : Tally} (g : TakingsLeft words r bs row left t) where
   pub going-room : Room 900000 900000 t
   going-room = record { draws = omega (arith, g .draws); falls = omega (arith, g .falls) }
 
   -- where no taking follows, the settling is done
   going-left : settleIn base words left (running bs t) ≡ running bs t → Left (settle base words r) bs row t
   going-left e =
-      let s : Same (running bs t) (settle base words r) = rw e at (g .ahead) in
+      let s : SameRun (running bs t) (settle base words r) = rw e at (g .ahead) in
       record {
         rack = g .held .written ∙ ap write (s .state);
         draws = s .draws;
@@ -98,16 +98,16 @@ module _ {words : List ℕ} {r : Run} {bs row : List ℕ} {left : ℕ} {t : Tall
 
   -- a taking
   pub going-on : {i v : ℕ} {bs₁ row₁ : List ℕ} {t₁ : Tally} → pick (suc (base .top)) (read bs) ≡ found i v → (k : ℕ) → left ≡ suc k
-      → Left (take base words i v (running bs t)) bs₁ row₁ t₁ → Going words r bs₁ row₁ k t₁
+      → Left (take base words i v (running bs t)) bs₁ row₁ t₁ → TakingsLeft words r bs₁ row₁ k t₁
   going-on {i} {v} {bs₁} {row₁} {t₁} e k n l =
       let q : Run = take base words i v (running bs t) in
       let p : Proper (read bs) = g .held .proper in
-      let a : Taking (read bs) i v = taking-of (read bs) i v p e in
-      let h : Kept (read bs) (q .state) = take-kept words i v (running bs t) p (g .ordered) (a .inside) (a .rank) (a .level) in
+      let a : Takable (read bs) i v = taking-of (read bs) i v p e in
+      let h : SameEdges (read bs) (q .state) = take-kept words i v (running bs t) p (g .ordered) (a .inside) (a .rank) (a .level) in
       let m : (q .draws ≤ t .draws + 257) × (q .falls ≤ suc (t .falls)) =
       take-room words i v (running bs t) p (g .ordered) (a .inside) (a .rank) (a .level) in
       let z : read bs₁ ≡ q .state = reads-as bs₁ (q .state) (l .rack) (h .proper) in
-      let s : Same (running bs₁ t₁) q = record { state = z; draws = l .draws; falls = l .falls } in
+      let s : SameRun (running bs₁ t₁) q = record { state = z; draws = l .draws; falls = l .falls } in
       record {
         held = held-of bs₁ (q .state) (l .rack) (h .proper);
         ordered = subst Ordered (sym z) (h .ordered);

@@ -15,7 +15,7 @@ use Rattle.settling.specs.Settling.{running, HoldsPending, Left}
 use Rattle.settling.specs.declared.Tally.{Tally}
 use Rattle.settling.proofs.Steps.{hand-kept, fall-kept}
 use Rattle.settling.proofs.News.{scanFrom-same}
-use Rattle.settling.proofs.Kept.{Kept, Same, take-draws, take-falls}
+use Rattle.settling.proofs.Kept.{SameEdges, SameRun, take-draws, take-falls}
 use Rattle.settling.proofs.Pending.{pending-but, pending-handed, pending-fallen}
 use Rattle.settling.proofs.Entries.{row-degree}
 use Rattle.settling.proofs.Written.{Draws, draws-of}
@@ -39,7 +39,7 @@ pub record Handed (bs : List ℕ) (i v : ℕ) (b : List ℕ) : Type 0 where
   pub bytes : b ≡ write (handOver i v (read bs))
 
 module _ {bs : List ℕ} {i v : ℕ} {b : List ℕ} (a : Handed bs i v b) where
-  handed-kept : Kept (read bs) (handOver i v (read bs))
+  handed-kept : SameEdges (read bs) (handOver i v (read bs))
   handed-kept = hand-kept (read bs) (a .held .proper) (a .ordered) i v (a .inside) (a .rank)
 
   handed-read : read b ≡ handOver i v (read bs)
@@ -80,7 +80,7 @@ module _ {bs : List ℕ} {i v : ℕ} {b : List ℕ} (a : Handed bs i v b) where
       rw (take-draws words i v (running bs t) (omega (arith, handed-degree)))
       (subst (λ (s : State). Left (draw words i v (at (running bs t) s)) d row r) handed-read c)
 
-  fallen-kept : Kept (handOver i v (read bs)) (ranked v i (handOver i v (read bs)))
+  fallen-kept : SameEdges (handOver i v (read bs)) (ranked v i (handOver i v (read bs)))
   unfolding handOver
   fallen-kept = fall-kept (handOver i v (read bs)) (handed-kept .proper) (handed-kept .ordered) i v (a .inside) (a .rank) handed-row
 
@@ -109,6 +109,6 @@ module _ {bs : List ℕ} {i v : ℕ} {b : List ℕ} (a : Handed bs i v b) where
         → Left (take base words i v (running bs t)) d row r
     unfolding fall ranked
     taken-falls words t n e c =
-        let p : Same (running b₂ _) (fall i v (at (running bs t) (handOver i v (read bs)))) =
+        let p : SameRun (running b₂ _) (fall i v (at (running bs t) (handOver i v (read bs)))) =
         record { state = fallen-read; draws = e .0; falls = e .1 } in
         rw (take-falls words i v (running bs t) (omega (arith, handed-degree))) (left-same (scanFrom-same base words i v p) c)

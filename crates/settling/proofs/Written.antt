@@ -15,7 +15,7 @@ use Rattle.moves.proofs.Keeps.{part-proper, took-proper, took-row, ranked-row, 
 use Rattle.moves.proofs.Held.{reads-as, held-of}
 use Rattle.settling.specs.Settling.{running, HoldsPendingBut, HoldsPending, noted, Left}
 use Rattle.settling.specs.declared.Tally.{Tally}
-use Rattle.settling.proofs.Steps.{Kept, lift-below, lift-kept, near-inside, near-other}
+use Rattle.settling.proofs.Steps.{SameEdges, lift-below, lift-kept, near-inside, near-other}
 use Rattle.settling.proofs.Pending.{pending-risen, pending-drawn}
 
 -- the bytes hold an ordered state in which v stands below level i
@@ -51,7 +51,7 @@ module _ {bs : List ℕ} {i v : ℕ} (a : Rising bs i v) where
   parted-proper : Proper (part v (read bs))
   parted-proper = part-proper (read bs) (a .held .proper) v (a .inside)
 
-  lifted-kept : Kept (read bs) (rise i v (part v (read bs)))
+  lifted-kept : SameEdges (read bs) (rise i v (part v (read bs)))
   lifted-kept = lift-kept (read bs) (a .held .proper) (a .ordered) i v (a .inside) (a .low) (a .level)
 
 module _ {bs : List ℕ} {i v : ℕ} (a : Rising bs i v) {b : List ℕ} where

@@ -6,7 +6,7 @@ use lib.ListN.{length, length-replicate}
 use Rattle.model.specs.Bytes.{read}
 use Rattle.model.specs.Moves.{promote}
 use Rattle.settling.specs.Settling.{running, Room}
-use Rattle.changes.proofs.Chains.{none-pending, Next, promoted-next, promoted-ran}
+use Rattle.changes.proofs.Chains.{none-pending, Onward, promoted-next, promoted-ran}
 use borrow.Author.Needs.{needs}
 use Rattle.changes.proofs.promote_and_settle.Statement.{statement}
 use Rattle.changes.proofs.promote_and_settle.Tie as tie
@@ -42,7 +42,7 @@ slice-aggregate-settle c = search needs
 -- where the promotion leaves the run
 next : (c : tie.After-promote) →
     let a = c .before .before .before .before .before .before .before .args in
-    Next (promote (a .words .now) (a .i) (a .u) (running (a .rack .now) (c .before .new .result))) (c .promote .last .0) (c .promote .last .1 .0) (c .promote .result)
+    Onward (promote (a .words .now) (a .i) (a .u) (running (a .rack .now) (c .before .new .result))) (c .promote .last .0) (c .promote .last .1 .0) (c .promote .result)
     × Room 1 0 (c .promote .result)
 next c =
     let a = c .before .before .before .before .before .before .before .args in

@@ -13,12 +13,12 @@ use Rattle.moves.specs.Counts.{hit, loweredCounts}
 use Rattle.moves.proofs.Held.{held-sized, held-rank}
 use Rattle.moves.proofs.Recount.{hit-counted}
 use Rattle.moves.proofs.Choices.{hit-of}
-use Rattle.moves.proofs.CountWalk.{Counted, counted-sized, counted-rank, counted-phi, Walked, Walk, u-small, row-starts, w-small, w-owned, w-sized, row-goes-on, row-ends, same-size, row-low, lowered-quiet, lowered-turn}
+use Rattle.moves.proofs.CountWalk.{Counted, counted-sized, counted-rank, counted-phi, RowCounted, Walk, u-small, row-starts, w-small, w-owned, w-sized, row-goes-on, row-ends, same-size, row-low, lowered-quiet, lowered-turn}
 use Rattle.moves.proofs.lower_counts.Statement.{statement}
 use Rattle.moves.proofs.lower_counts.Tie as tie
 
 abbrev Inv-loop : tie.InvT-loop
-Inv-loop rack₀ u i n from w₀ rack w = Walked (read rack₀) (loweredCounts (read rack₀) i u) u rack w
+Inv-loop rack₀ u i n from w₀ rack w = RowCounted (read rack₀) (loweredCounts (read rack₀) i u) u rack w
 
 abbrev μ-loop : tie.MeasureT-loop
 μ-loop rack₀ u i n from w₀ rack w = n - w

@@ -9,12 +9,12 @@ use Rattle.layout.specs.Setters.{Sized}
 use Rattle.moves.specs.Counts.{raisedCounts}
 use Rattle.moves.proofs.Held.{held-sized}
 use Rattle.moves.proofs.Recount.{raised-fits}
-use Rattle.moves.proofs.CountWalk.{counted-phi, Walked, Walk, u-small, row-starts, w-small, w-owned, w-sized, row-goes-on, row-ends, same-size, raised-quiet, raised-turn}
+use Rattle.moves.proofs.CountWalk.{counted-phi, RowCounted, Walk, u-small, row-starts, w-small, w-owned, w-sized, row-goes-on, row-ends, same-size, raised-quiet, raised-turn}
 use Rattle.moves.proofs.raise_counts.Statement.{statement}
 use Rattle.moves.proofs.raise_counts.Tie as tie
 
 abbrev Inv-loop : tie.InvT-loop
-Inv-loop rack₀ v i n w₀ rack w = Walked (read rack₀) (raisedCounts (read rack₀) i v) v rack w
+Inv-loop rack₀ v i n w₀ rack w = RowCounted (read rack₀) (raisedCounts (read rack₀) i v) v rack w
 
 abbrev μ-loop : tie.MeasureT-loop
 μ-loop rack₀ v i n w₀ rack w = n - w

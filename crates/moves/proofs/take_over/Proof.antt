@@ -14,7 +14,7 @@ use Rattle.model.specs.Bytes.{read}
 use Rattle.model.proofs.Tests.{true-T}
 use Rattle.layout.specs.Setters.{Sized}
 use Rattle.moves.proofs.Held.{held-sized, held-small, held-phi, held-degree}
-use Rattle.moves.proofs.Taking.{Taking, Riser, owed, owed-count, taking-start, taking-sized, taking-rank, taking-owns}
+use Rattle.moves.proofs.Taking.{Taking, CanRise, owed, owed-count, taking-start, taking-sized, taking-rank, taking-owns}
 use Rattle.moves.proofs.Taking.{taking-inside, taking-no, taking-yes, taking-none}
 use Rattle.moves.proofs.take_over.Statement.{statement}
 use Rattle.moves.proofs.take_over.Tie as tie
@@ -32,7 +32,7 @@ entry c = c .before .before .before .before .before .before
 abbrev state : tie.Start Inv-loop μ-loop → State
 state s = read (s .args .rack .now)
 
-riser : (s : tie.Start Inv-loop μ-loop) → Riser (state s) (s .args .i) (s .args .u)
+riser : (s : tie.Start Inv-loop μ-loop) → CanRise (state s) (s .args .i) (s .args .u)
 riser s = record { proper = s .pre .0 .proper; within = s .pre .1 .0 .0; low = s .pre .1 .1 }
 
 u-small : (s : tie.Start Inv-loop μ-loop) → s .args .u < 256

@@ -6,7 +6,7 @@ use native.Mathlib.Omega.{arith}
 use borrow.Author.Needs.{needs}
 use Rattle.model.specs.Bytes.{read}
 use Rattle.moves.proofs.Held.{held-sized, held-size, held-small}
-use Rattle.settling.proofs.Scans.{left-sized, Begun, Scanning, scan-starts, scan-visits, scan-again, scan-ends}
+use Rattle.settling.proofs.Scans.{left-sized, ScanFrom, Scanning, scan-starts, scan-visits, scan-again, scan-ends}
 use Rattle.settling.proofs.scan.Statement.{statement}
 use Rattle.settling.proofs.scan.Tie as tie
 
@@ -16,7 +16,7 @@ Inv-loop rack₀ pending₀ words v i n t₀ w₀ rack pending t w = Scanning wo
 abbrev μ-loop : tie.MeasureT-loop
 μ-loop rack₀ pending₀ words v i n t₀ w₀ rack pending t w = n - w
 
-begun : (c : tie.Start Inv-loop μ-loop) → Begun (c .args .words .now) (c .args .i) (c .args .v) (c .args .rack .now) (c .args .tally)
+begun : (c : tie.Start Inv-loop μ-loop) → ScanFrom (c .args .words .now) (c .args .i) (c .args .v) (c .args .rack .now) (c .args .tally)
 begun c = record { held = c .pre .0 .0; ordered = c .pre .0 .1; inside = c .pre .1 .0 .0; level = c .pre .1 .0 .1; row = c .pre .1 .0 .2 }
 
 size-requires : tie.Need-size-requires Inv-loop μ-loop

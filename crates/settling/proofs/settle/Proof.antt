@@ -1,4 +1,4 @@
--- `settling::settle` meets its contract. The loop's invariant is `Going`: as many takings as are left lead from the bytes and the tally
+-- `settling::settle` meets its contract. The loop's invariant is `TakingsLeft`: as many takings as are left lead from the bytes and the tally
 -- as they are now to where the settling leads. Assumes nothing.
 use mathlib.Core.Path.{_≡_, sym, ap, _∙_}
 use Prim.Native.Nat.{suc, _≤_}
@@ -14,7 +14,7 @@ use Rattle.settling.proofs.SettleLoop.{
   taking-of,
   takings,
   takings-few,
-  Going,
+  TakingsLeft,
   going-start,
   going-room,
   going-rest,
@@ -25,7 +25,7 @@ use Rattle.settling.proofs.settle.Statement.{statement}
 use Rattle.settling.proofs.settle.Tie as tie
 
 abbrev Inv-loop : tie.InvT-loop
-Inv-loop rack₀ pending₀ words left₀ t₀ rack pending left t = Going words (running rack₀ t₀) rack pending left t
+Inv-loop rack₀ pending₀ words left₀ t₀ rack pending left t = TakingsLeft words (running rack₀ t₀) rack pending left t
 
 abbrev μ-loop : tie.MeasureT-loop
 μ-loop rack₀ pending₀ words left₀ t₀ rack pending left t = left
