@@ -11,9 +11,9 @@ use Rattle.model.specs.Change.{Answer}
 use Rattle.model.specs.Record.{answerLine, pairLine, endLine}
 use Rattle.model.specs.Run.{badLine}
 use Rattle.text.specs.Writing.{Put}
-use Rattle.text.proofs.Lengths.{figure-most, one-most, three-most}
+use Rattle.text.proofs.Lengths.{figure-most, one-most}
 use Rattle.text.proofs.Answers.{done-line, refused-line}
-use Rattle.record.specs.Line.{fieldText, oneText, threeText, pairText, endText}
+use Rattle.record.specs.Line.{fieldText, oneText, threeText, doneText, refusedText, pairText, endText}
 
 -- Pieces.
 
@@ -25,8 +25,8 @@ pub one-parts : (p : List ℕ) (x : ℕ) (e : List ℕ) → fieldText p x ++ e �
 unfolding fieldText oneText
 one-parts p x e = append-assoc p (decimal x) e
 
-pub one-length : (p : List ℕ) (x : ℕ) (e : List ℕ) → length (oneText p x e) ≡ length (fieldText p x) + length e
-unfolding fieldText oneText
+pub one-length : (p : List ℕ) (x : ℕ) (e : List ℕ) → length (oneText p x e) ≡ length p + length (decimal x) + length e
+unfolding oneText
 one-length p x e = simp length-append (omega arith)
 
 pub three-parts : (p : List ℕ) (x : ℕ) (q : List ℕ) (y : ℕ) (r : List ℕ) (z : ℕ) (e : List ℕ)
@@ -34,45 +34,38 @@ pub three-parts : (p : List ℕ) (x : ℕ) (q : List ℕ) (y : ℕ) (r : List �
 unfolding fieldText oneText threeText
 three-parts p x q y r z e = simp append-assoc
 
-pub three-length : (p : List ℕ) (x : ℕ) (q : List ℕ) (y : ℕ) (r : List ℕ) (z : ℕ) (e : List ℕ)
-    → length (threeText p x q y r z e) ≡ length (fieldText p x) + length (fieldText q y) + length (oneText r z e)
-unfolding fieldText oneText threeText
-three-length p x q y r z e = simp length-append (omega arith)
+-- the line of a run turned back is a field and a line of one figure
+pub bad-parts : (k l : ℕ) → fieldText (bytes "(bad ") k ++ oneText (bytes " ") l (bytes ")\n") ≡ badLine k l
+unfolding fieldText oneText badLine
+bad-parts k l = simp append-assoc
 
--- The room that a line needs.
+-- The room that they need.
+
+pub field-room : (p : List ℕ) (x : ℕ) → x ≤ largest → length (fieldText p x) ≤ length p + 10
+field-room p x h = omega (arith, field-length p x, figure-most x h)
 
 pub one-room : (p : List ℕ) (x : ℕ) (e : List ℕ) → x ≤ largest → length (oneText p x e) ≤ length p + length e + 10
 unfolding oneText
 one-room p x e h = one-most p x e h
 
 pub three-room : (p : List ℕ) (x : ℕ) (q : List ℕ) (y : ℕ) (r : List ℕ) (z : ℕ) (e : List ℕ) → x ≤ largest → y ≤ largest → z ≤ largest
-    → length (threeText p x q y r z e) ≤ length p + length q + length r + length e + 30
-unfolding threeText
-three-room p x q y r z e h k l = three-most p x q y r z e h k l
-
--- The line of a run turned back is a field and a line of one figure.
-
-pub bad-parts : (k l : ℕ) → fieldText (bytes "(bad ") k ++ oneText (bytes " ") l (bytes ")\n") ≡ badLine k l
-unfolding fieldText oneText badLine
-bad-parts k l = simp append-assoc
-
-pub field-room : (p : List ℕ) (x : ℕ) → x ≤ largest → length (fieldText p x) ≤ length p + 10
-field-room p x h = omega (arith, field-length p x, figure-most x h)
+    → length (fieldText p x) + length (fieldText q y) + length (oneText r z e) ≤ length p + length q + length r + length e + 30
+three-room p x q y r z e h k l = omega (arith, field-room p x h, field-room q y k, one-room r z e l)
 
 -- A line that was written, said of equal figures.
 
-pub put-three-as : (p : List ℕ) (x : ℕ) (q : List ℕ) (y : ℕ) (r : List ℕ) (z : ℕ) (e old new : List ℕ) (k : ℕ) → Put (threeText p x q y r z e) old new k
+pub put-three-as : (p : List ℕ) (x : ℕ) (q : List ℕ) (y : ℕ) (r : List ℕ) (z : ℕ) (e old new : List ℕ) (k : ℕ)
+    → Put (threeText p x q y r z e) old new k
     → (x′ y′ z′ : ℕ) → x ≡ x′ → y ≡ y′ → z ≡ z′ → Put (threeText p x′ q y′ r z′ e) old new k
 put-three-as p x q y r z e old new k w x′ y′ z′ h i j = subst (λ (l : List ℕ). Put l old new k) (λ t. threeText p (h t) q (i t) r (j t) e) w
 
 -- The lines of `model`.
 
-pub answer-done : (x : Answer) → x .number ≡ 0
-    → answerLine x ≡ threeText (bytes "(done (draws ") (x .draws) (bytes ") (falls ") (x .falls) (bytes ") (pairs ") (x .pairs) (bytes "))\n")
+pub answer-done : (x : Answer) → x .number ≡ 0 → answerLine x ≡ doneText (x .draws) (x .falls) (x .pairs)
 unfolding threeText
 answer-done x h = done-line x h
 
-pub answer-refused : (x : Answer) → x .number ≢ 0 → answerLine x ≡ oneText (bytes "(refused ") (x .number) (bytes ")\n")
+pub answer-refused : (x : Answer) → x .number ≢ 0 → answerLine x ≡ refusedText (x .number)
 unfolding oneText
 answer-refused x h = refused-line x h
 

@@ -6,7 +6,8 @@ ghost use Rattle.model.specs.Trace.{rackLine};
 ghost use Rattle.model.specs.Record.{answerLine};
 ghost use Rattle.model.specs.Run.{badLine};
 ghost use Rattle.text.specs.Writing.{Put};
-ghost use Rattle.record.specs.Line.{rackRoom, answerRoom, pairRoom, endRoom, badRoom, fieldText, oneText, threeText, answered, pairText, endText};
+ghost use Rattle.record.specs.Line.{rackRoom, answerRoom, pairRoom, endRoom, badRoom, fieldText, oneText, answered, pairText, endText};
+ghost use Rattle.record.specs.Line.{drawsText, fallsText, heldText, doneText, refusedText, firstText, secondText, levelText};
 
 // Writes a fixed text, and a number straight after it.
 fn put_field(out: &mut [u8], p: &[u8], x: u32) -> usize
@@ -28,27 +29,6 @@ fn put_one(out: &mut [u8], p: &[u8], x: u32, e: &[u8]) -> usize
     at + k
 }
 
-// Writes a line of three figures, each after a fixed text, which the fixed text e ends.
-fn put_three(
-    out: &mut [u8],
-    p: &[u8],
-    x: u32,
-    q: &[u8],
-    y: u32,
-    r: &[u8],
-    z: u32,
-    e: &[u8],
-) -> usize
-    requires { ⌜ length (threeText (now p) x (now q) y (now r) z (now e)) ≤ length (now out) ⌝ }
-    ensures { λ k. ⌜ Put (threeText (now (p .entry)) x (now (q .entry)) y (now (r .entry)) z (now (e .entry))) (now (out .entry)) (now (out .exit)) k ⌝ }
-{
-    let i = put_field(out, p, x);
-    let j = put_field(&mut out[i..], q, y);
-    let at = i + j;
-    let k = put_one(&mut out[at..], r, z, e);
-    at + k
-}
-
 // Writes line 1, which the record repeats from the trace.
 pub fn put_rack(out: &mut [u8], n: u32) -> usize
     requires { ⌜ rackRoom ≤ length (now out) ⌝ }
@@ -57,25 +37,102 @@ pub fn put_rack(out: &mut [u8], n: u32) -> usize
     put_one(out, b"(rack (boards ", n, b"))\n")
 }
 
+// The lines of a change and of a pair are printed most. Each fixed text of theirs has a writer of its own that is called once, so that it is
+// compiled into its caller with the text's length known; a writer lent its text is not.
+
+// The line of a change made: `(done (draws D`, `) (falls F` and `) (pairs P))`.
+fn put_draws(out: &mut [u8], draws: u32) -> usize
+    requires { ⌜ length (drawsText draws) ≤ length (now out) ⌝ }
+    ensures { λ r. ⌜ Put (drawsText draws) (now (out .entry)) (now (out .exit)) r ⌝ }
+{
+    let at = text::put_literal(out, b"(done (draws ");
+    let k = text::put_number(&mut out[at..], draws);
+    at + k
+}
+
+fn put_falls(out: &mut [u8], falls: u32) -> usize
+    requires { ⌜ length (fallsText falls) ≤ length (now out) ⌝ }
+    ensures { λ r. ⌜ Put (fallsText falls) (now (out .entry)) (now (out .exit)) r ⌝ }
+{
+    let at = text::put_literal(out, b") (falls ");
+    let k = text::put_number(&mut out[at..], falls);
+    at + k
+}
+
+fn put_held(out: &mut [u8], pairs: u32) -> usize
+    requires { ⌜ length (heldText pairs) ≤ length (now out) ⌝ }
+    ensures { λ r. ⌜ Put (heldText pairs) (now (out .entry)) (now (out .exit)) r ⌝ }
+{
+    let i = text::put_literal(out, b") (pairs ");
+    let j = text::put_number(&mut out[i..], pairs);
+    let at = i + j;
+    let k = text::put_literal(&mut out[at..], b"))\n");
+    at + k
+}
+
+fn put_done(out: &mut [u8], draws: u32, falls: u32, pairs: u32) -> usize
+    requires { ⌜ answerRoom ≤ length (now out) ⌝ }
+    ensures { λ r. ⌜ Put (doneText draws falls pairs) (now (out .entry)) (now (out .exit)) r ⌝ }
+{
+    let i = put_draws(out, draws);
+    let j = put_falls(&mut out[i..], falls);
+    let at = i + j;
+    let k = put_held(&mut out[at..], pairs);
+    at + k
+}
+
+// The line of a change refused.
+fn put_refused(out: &mut [u8], number: u32) -> usize
+    requires { ⌜ length (refusedText number) ≤ length (now out) ⌝ }
+    ensures { λ r. ⌜ Put (refusedText number) (now (out .entry)) (now (out .exit)) r ⌝ }
+{
+    let i = text::put_literal(out, b"(refused ");
+    let j = text::put_number(&mut out[i..], number);
+    let at = i + j;
+    let k = text::put_literal(&mut out[at..], b")\n");
+    at + k
+}
+
 // Writes the line of a change: `(done (draws D) (falls F) (pairs P))` for number 0, else `(refused K)`.
 pub fn put_answer(out: &mut [u8], number: u32, draws: u32, falls: u32, pairs: u32) -> usize
     requires { ⌜ answerRoom ≤ length (now out) ⌝ }
     ensures { λ r. ⌜ Put (answerLine (answered number draws falls pairs)) (now (out .entry)) (now (out .exit)) r ⌝ }
 {
     if number == 0 {
-        put_three(
-            out,
-            b"(done (draws ",
-            draws,
-            b") (falls ",
-            falls,
-            b") (pairs ",
-            pairs,
-            b"))\n",
-        )
+        put_done(out, draws, falls, pairs)
     } else {
-        put_one(out, b"(refused ", number, b")\n")
+        put_refused(out, number)
     }
+}
+
+// The line of a pair: `(pair (A`, ` B` and `) (level L))`.
+fn put_first(out: &mut [u8], a: u32) -> usize
+    requires { ⌜ length (firstText a) ≤ length (now out) ⌝ }
+    ensures { λ r. ⌜ Put (firstText a) (now (out .entry)) (now (out .exit)) r ⌝ }
+{
+    let at = text::put_literal(out, b"(pair (");
+    let k = text::put_number(&mut out[at..], a);
+    at + k
+}
+
+fn put_second(out: &mut [u8], b: u32) -> usize
+    requires { ⌜ length (secondText b) ≤ length (now out) ⌝ }
+    ensures { λ r. ⌜ Put (secondText b) (now (out .entry)) (now (out .exit)) r ⌝ }
+{
+    let at = text::put_literal(out, b" ");
+    let k = text::put_number(&mut out[at..], b);
+    at + k
+}
+
+fn put_level(out: &mut [u8], level: u32) -> usize
+    requires { ⌜ length (levelText level) ≤ length (now out) ⌝ }
+    ensures { λ r. ⌜ Put (levelText level) (now (out .entry)) (now (out .exit)) r ⌝ }
+{
+    let i = text::put_literal(out, b") (level ");
+    let j = text::put_number(&mut out[i..], level);
+    let at = i + j;
+    let k = text::put_literal(&mut out[at..], b"))\n");
+    at + k
 }
 
 // Writes the line of the pair a-b, a the lower vertex.
@@ -83,7 +140,11 @@ pub fn put_pair(out: &mut [u8], a: u32, b: u32, level: u32) -> usize
     requires { ⌜ pairRoom ≤ length (now out) ⌝ }
     ensures { λ r. ⌜ Put (pairText a b level) (now (out .entry)) (now (out .exit)) r ⌝ }
 {
-    put_three(out, b"(pair (", a, b" ", b, b") (level ", level, b"))\n")
+    let i = put_first(out, a);
+    let j = put_second(&mut out[i..], b);
+    let at = i + j;
+    let k = put_level(&mut out[at..], level);
+    at + k
 }
 
 // Writes the end line.

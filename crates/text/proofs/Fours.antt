@@ -4,11 +4,11 @@ use mathlib.Core.Path.{_≡_, refl, sym, ap, _∙_, subst}
 use mathlib.Core.List.{List, _++_}
 use native.Mathlib.Omega.{arith}
 use lib.ListN.{length, getD, drop}
-use Rattle.text.specs.Literal.{Starts, Joined, FourAt}
+use Rattle.text.specs.Literal.{Starts, FourBytes, FourAt}
 use Rattle.text.proofs.Standing.{literal-turn, literal-same}
 
 -- equal numbers are of equal bytes
-bytes-same : {a b c d x k l m n y : ℕ} → Joined a b c d x → Joined k l m n y → x ≡ y → (a ≡ k) × (b ≡ l) × (c ≡ m) × (d ≡ n)
+bytes-same : {a b c d x k l m n y : ℕ} → FourBytes a b c d x → FourBytes k l m n y → x ≡ y → (a ≡ k) × (b ≡ l) × (c ≡ m) × (d ≡ n)
 bytes-same f g e =
     let s = f .sum in
     let t = g .sum in

@@ -1,6 +1,5 @@
 -- How long decimals are, and a line that is made of fixed texts and numbers. Assumes nothing.
 use Prim.Native.Nat.{ℕ, zero, suc, _+_, _*_, _/_, _^_, _≤_, _<_}
-use mathlib.Core.Path.{ap}
 use mathlib.Core.Logic.{inl, inr}
 use mathlib.Core.List.{List, _++_}
 use native.Mathlib.Omega.{arith}
@@ -8,17 +7,17 @@ use native.Mathlib.Nat.{pow-suc, div-lt-iff-lt-mul}
 use lib.ListN.{length, length-append}
 use Rattle.model.specs.Text.{decimal, largest}
 use Rattle.model.proofs.Tests.{le?}
-use Rattle.text.proofs.Decimals.{decimal-small, decimal-large}
+use Rattle.text.proofs.Decimals.{length-small, length-large}
 
 -- a number below 10^d has at most d digits
 pub length-le : (k n : ℕ) → n < 10 ^ suc k → length (decimal n) ≤ suc k
-length-le zero n h = omega (arith, ap length (decimal-small n (omega arith)))
+length-le zero n h = omega (arith, length-small n (omega arith))
 length-le (suc k) n h =
     let ih = length-le k (n / 10) in
     let q : n < 10 ^ suc k * 10 = rw pow-suc at h in
     elim (le? 10 n) [
-      | inr p ↦ omega (arith, ap length (decimal-small n p))
-      | inl p ↦ omega (arith, ih (div-lt-iff-lt-mul (omega arith) .1 q), simp length-append at (ap length (decimal-large n p)))
+      | inr p ↦ omega (arith, length-small n p)
+      | inl p ↦ omega (arith, ih (div-lt-iff-lt-mul (omega arith) .1 q), length-large n p)
     ]
 
 -- a figure of 32 bits has at most ten

@@ -4,6 +4,7 @@ pub mod Standing
 pub mod Begun
 pub mod Fours
 pub mod Over
+pub mod Writers
 pub mod Texts
 pub mod Lengths
 pub mod Answers

@@ -7,8 +7,9 @@ use native.Mathlib.Omega.{arith}
 use native.Mathlib.Nat.{add-zero, zero-add}
 use lib.ListN.{length, getD, take, drop, set, length-append, length-take, length-drop, take-append-drop, drop-of-length-le}
 use lib.Seq.{drop-cons, drop-drop, set-at, take-at, drop-at, take-all, length-take-le}
-use Rattle.model.specs.Text.{over}
+use Rattle.model.specs.Text.{decimal, over}
 use Rattle.text.specs.Writing.{Put}
+use Rattle.text.proofs.Decimals.{decimal-small, length-small}
 
 pub length-over : (at : ℕ) (p old : List ℕ) → at + length p ≤ length old → length (over at p old) ≡ length old
 unfolding over
@@ -50,10 +51,6 @@ over-set at p old b h =
     ∙ append-assoc (take at old) p (b ∷ drop (suc n) old)
     ∙ ap (λ (l : List ℕ). take at old ++ l) (sym (append-assoc p (b ∷ []) (drop (suc n) old)))
     ∙ ap (λ (k : ℕ). take at old ++ ((p ++ (b ∷ [])) ++ drop k old)) m
-
--- the first byte of all
-pub over-first : (old : List ℕ) (b : ℕ) → 0 < length old → set old 0 b ≡ over 0 (b ∷ []) old
-over-first old b h = ap (λ (l : List ℕ). set l 0 b) (sym (over-none 0 old)) ∙ over-set 0 [] old b h
 
 -- what was written at the start of the part from `at` on, said of the whole
 pub over-part : (at : ℕ) (p old : List ℕ) → take at old ++ over 0 p (drop at old) ≡ over at p old
@@ -124,3 +121,17 @@ put-length {p} {old} f h = ap length (f .wrote) ∙ length-over 0 p old (omega a
 -- the same, by how much was written
 pub put-kept : {p old new : List ℕ} {r : ℕ} → Put p old new r → r ≤ length old → length new ≡ length old
 put-kept f h = put-length f (omega (arith, f .count))
+
+-- a byte more, stored after what was written
+pub put-byte : {p old w : List ℕ} {n : ℕ} (b : ℕ) → Put p old w n → length p < length old → Put (p ++ (b ∷ [])) old (set w n b) (n + 1)
+put-byte {p} {old} {w} {n} b f h = record {
+  count = omega (arith, f .count, length-append p (b ∷ []));
+  wrote =
+      ap (λ (l : List ℕ). set l n b) (f .wrote)
+      ∙ ap (λ (k : ℕ). set (over 0 p old) k b) (f .count ∙ sym (zero-add (length p)))
+      ∙ over-set 0 p old b (omega arith);
+}
+
+-- a number of one digit is one byte
+pub put-digit : (old : List ℕ) (n : ℕ) → n < 10 → length (decimal n) ≤ length old → Put (decimal n) old (set old 0 (48 + n)) 1
+put-digit old n h room = put-as _ _ (sym (decimal-small n h)) (put-byte (48 + n) (put-none old) (omega (arith, length-small n h)))

@@ -16,7 +16,7 @@ abbrev pub Starts : List ℕ → ℕ → List ℕ → ℕ → Type 0
 Starts s at p k = drop at s ≡ take k p ++ drop (at + k) s
 
 -- r is four bytes as one number, low byte first
-pub record Joined (a b c d r : ℕ) : Type 0 where
+pub record FourBytes (a b c d r : ℕ) : Type 0 where
   pub sum : r ≡ a + 256 * b + 65536 * c + 16777216 * d
   pub a-byte : a < 256
   pub b-byte : b < 256
@@ -24,4 +24,4 @@ pub record Joined (a b c d r : ℕ) : Type 0 where
   pub d-byte : d < 256
 
 abbrev pub FourAt : List ℕ → ℕ → ℕ → Type 0
-FourAt s i r = Joined (getD s i 0) (getD s (i + 1) 0) (getD s (i + 2) 0) (getD s (i + 3) 0) r
+FourAt s i r = FourBytes (getD s i 0) (getD s (i + 1) 0) (getD s (i + 2) 0) (getD s (i + 3) 0) r

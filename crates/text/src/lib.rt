@@ -4,7 +4,7 @@ ghost use Prim.Native.Nat.{_+_, _≤_, _<_};
 ghost use lib.ListN.{length};
 ghost use Rattle.model.specs.Text.{decimal};
 ghost use Rattle.text.specs.Number.{DigitOf, Begins, NumberAt};
-ghost use Rattle.text.specs.Literal.{Starts, Joined, FourAt, LiteralAt};
+ghost use Rattle.text.specs.Literal.{Starts, FourBytes, FourAt, LiteralAt};
 ghost use Rattle.text.specs.Writing.{Put};
 
 // The number that stands there, and the position after it.
@@ -149,18 +149,30 @@ fn four(s: &[u8], i: usize) -> u32
     requires { ⌜ i + 4 ≤ length (now s) ⌝ }
     ensures { λ r. ⌜ FourAt (now (s .entry)) i r ⌝ }
 {
-    join(s[i], s[i + 1], s[i + 2], s[i + 3])
+    four_bytes(s[i], s[i + 1], s[i + 2], s[i + 3])
 }
 
 // Taken as parameters the bytes have their range, so nothing is left to prove of them.
-fn join(a: u8, b: u8, c: u8, d: u8) -> u32
-    ensures { λ r. ⌜ Joined a b c d r ⌝ }
+fn four_bytes(a: u8, b: u8, c: u8, d: u8) -> u32
+    ensures { λ r. ⌜ FourBytes a b c d r ⌝ }
 {
     a as u32 + 256 * (b as u32) + 65536 * (c as u32) + 16777216 * (d as u32)
 }
 
-// Writes n in decimal, and answers how many bytes that is.
+// Writes n in decimal, and answers how many bytes that is. Most numbers of a record have one digit: those are written without a call.
 pub fn put_number(out: &mut [u8], n: u32) -> usize
+    requires { ⌜ length (decimal n) ≤ length (now out) ⌝ }
+    ensures { λ r. ⌜ Put (decimal n) (now (out .entry)) (now (out .exit)) r ⌝ }
+{
+    if n < 10 {
+        out[0] = 48 + n as u8;
+        return 1;
+    }
+    put_digits(out, n)
+}
+
+// The same for a number of any length: the digits before the last one first, by a call of itself.
+fn put_digits(out: &mut [u8], n: u32) -> usize
     requires { ⌜ length (decimal n) ≤ length (now out) ⌝ }
     ensures { λ r. ⌜ Put (decimal n) (now (out .entry)) (now (out .exit)) r ⌝ }
 {
@@ -168,7 +180,7 @@ pub fn put_number(out: &mut [u8], n: u32) -> usize
         out[0] = 48 + n as u8;
         1
     } else {
-        let k = put_number(out, n / 10);
+        let k = put_digits(out, n / 10);
         out[k] = 48 + (n % 10) as u8;
         k + 1
     }

@@ -1,28 +1,30 @@
--- `record::put_bad` meets its contract. A field, and a line of one figure after it: `put-then`. Assumes nothing.
-use Prim.Native.Nat.{_≤_}
+-- `record::put_bad` meets its contract. A field, and a line of one figure straight after it. Assumes nothing.
 use native.Mathlib.Omega.{arith}
-use Rattle.model.specs.Text.{bytes}
-use Rattle.text.proofs.Over.{put-as, put-then, length-part}
-use Rattle.record.proofs.Laws.{field-room, one-room, bad-parts}
 use borrow.Author.Needs.{needs}
+use Rattle.model.specs.Text.{bytes}
+use Rattle.text.proofs.Over.{put-as, put-then}
+use Rattle.text.proofs.Writers.{Two, two-first, second-starts, second-room, second-within}
+use Rattle.record.specs.Line.{fieldText, oneText}
+use Rattle.record.proofs.Laws.{field-room, one-room, bad-parts}
 use Rattle.record.proofs.put_bad.Statement.{statement}
 use Rattle.record.proofs.put_bad.Tie as tie
+
+room : (c : tie.Start) → Two (fieldText (bytes "(bad ") (c .args .number)) (oneText (bytes " ") (c .args .line) (bytes ")\n")) (c .args .out .now)
+room c =
+    let a = c .args in
+    record { fit = omega (arith, c .pre, field-room (bytes "(bad ") (a .number) (omega arith), one-room (bytes " ") (a .line) (bytes ")\n") (omega arith)) }
 
 slice-aggregate-put-field : tie.Need-slice-aggregate-put-field
 slice-aggregate-put-field c = search needs
 
--- the two parts are short
-front : (c : tie.After-slice-known2) → c .before .before .put-field .result ≤ 15
-front c = omega (arith, c .before .before .put-field .ensures .count, field-room (bytes "(bad ") (c .before .before .before .before .before .before .args .number) (omega arith))
-
 put-field-requires : tie.Need-put-field-requires
-put-field-requires c κs = omega (arith, c .before .before .before .pre, field-room (bytes "(bad ") (c .before .before .before .args .number) (omega arith))
+put-field-requires c κs = two-first (room (c .before .before .before))
 
 sub-put-one : tie.Need-sub-put-one
-sub-put-one c = omega (arith, front c, c .before .before .before .before .before .before .pre, c .before .before .put-field .kept .0)
+sub-put-one c = second-starts (room (c .before .before .before .before .before .before)) (c .before .before .put-field .ensures)
 
 part-put-one-start : tie.Need-part-put-one-start
-part-put-one-start c = omega (arith, front c, c .before .before .before .before .before .before .pre, c .before .before .put-field .kept .0)
+part-put-one-start c = sub-put-one c
 
 part-put-one-end : tie.Need-part-put-one-end
 part-put-one-end c = search needs
@@ -35,19 +37,24 @@ slice-aggregate-put-one-2 c = search needs
 
 put-one-requires : tie.Need-put-one-requires
 put-one-requires c κs =
-    let w = c .before .before .before .before .before .put-field in
-    omega (arith, front (c .before .before .before), c .before .before .before .before .before .before .before .before .before .pre, w .kept .0, length-part (w .result) (w .last .0), one-room (bytes " ") (c .before .before .before .before .before .before .before .before .before .args .line) (bytes ")\n") (omega arith))
+    let d = c .before .before .before in
+    second-room (room (d .before .before .before .before .before .before)) (d .before .before .put-field .ensures)
 
 add-result : tie.Need-add-result
-add-result c = omega (arith, front (c .before .before .before .before .before .before), c .before .before .put-one .ensures .count, one-room (bytes " ") (c .before .before .before .before .before .before .before .before .before .before .before .before .args .line) (bytes ")\n") (omega arith))
+add-result c =
+    let d = c .before .before .before .before .before .before in
+    let s = d .before .before .before .before .before .before in
+    omega (arith, s .good .0 .0, second-within (room s) (d .before .before .put-field .ensures) (c .before .before .put-one .ensures))
 
 same-length : tie.Need-same-length
 same-length c = search needs
 
 returns : tie.Need-returns
 returns c =
-    put-as _ _ (bad-parts (c .before .before .before .before .before .before .before .before .before .before .before .before .args .number) (c .before .before .before .before .before .before .before .before .before .before .before .before .args .line))
-    (put-then (c .before .before .before .before .before .before .before .before .put-field .ensures) (c .before .before .put-one .ensures) (omega (arith, c .before .before .before .before .before .before .before .before .before .before .before .before .pre, field-room (bytes "(bad ") (c .before .before .before .before .before .before .before .before .before .before .before .before .args .number) (omega arith))))
+    let d = c .before .before .before .before .before .before in
+    let s = d .before .before .before .before .before .before in
+    put-as _ _ (bad-parts (s .args .number) (s .args .line))
+    (put-then (d .before .before .put-field .ensures) (c .before .before .put-one .ensures) (two-first (room s)))
 
 pub put-bad-spec : {M : Type 1} → statement M
 put-bad-spec =

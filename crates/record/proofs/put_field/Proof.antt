@@ -1,43 +1,36 @@
--- `record::put_field` meets its contract. Two writers, one after the other: `put-then`.
--- Assumes nothing.
+-- `record::put_field` meets its contract. A text that is lent, and a number straight after it. Assumes nothing.
 use native.Mathlib.Omega.{arith}
-use Rattle.text.proofs.Over.{put-then, length-part}
+use borrow.Author.Needs.{needs}
+use Rattle.model.specs.Text.{decimal}
+use Rattle.text.proofs.Over.{put-then}
+use Rattle.text.proofs.Writers.{Two, two-first, second-starts, second-room, second-within}
 use Rattle.record.specs.Line.{fieldText}
 use Rattle.record.proofs.Laws.{field-length}
-use borrow.Author.Needs.{needs}
 use Rattle.record.proofs.put_field.Statement.{statement}
 use Rattle.record.proofs.put_field.Tie as tie
 
+room : (c : tie.Start) → Two (c .args .p .now) (decimal (c .args .x)) (c .args .out .now)
+room c = record { fit = rw field-length at (c .pre) }
+
 put-literal-requires : tie.Need-put-literal-requires
-put-literal-requires c κs =
-    let a = c .before .before .before .args in
-    omega (arith, c .before .before .before .pre, field-length (a .p .now) (a .x))
+put-literal-requires c κs = two-first (room (c .before .before .before))
 
 sub-put-number : tie.Need-sub-put-number
-sub-put-number c =
-    let a = c .before .before .before .before .before .before .args in
-    let w = c .before .before .put-literal in
-    omega (arith, c .before .before .before .before .before .before .pre, w .kept .0, w .ensures .count, field-length (a .p .now) (a .x))
+sub-put-number c = second-starts (room (c .before .before .before .before .before .before)) (c .before .before .put-literal .ensures)
 
 part-put-number-start : tie.Need-part-put-number-start
-part-put-number-start c =
-    let a = c .before .before .before .before .before .before .args in
-    let w = c .before .before .put-literal in
-    omega (arith, c .before .before .before .before .before .before .pre, w .kept .0, w .ensures .count, field-length (a .p .now) (a .x))
+part-put-number-start c = sub-put-number c
 
 part-put-number-end : tie.Need-part-put-number-end
 part-put-number-end c = search needs
 
 put-number-requires : tie.Need-put-number-requires
-put-number-requires c κs =
-    let a = c .before .before .before .before .before .before .before .args in
-    let w = c .before .before .before .put-literal in
-    omega (arith, c .before .before .before .before .before .before .before .pre, w .kept .0, w .ensures .count, length-part (w .result) (w .last .0), field-length (a .p .now) (a .x))
+put-number-requires c κs = second-room (room (c .before .before .before .before .before .before .before)) (c .before .before .before .put-literal .ensures)
 
 add-result : tie.Need-add-result
 add-result c =
-    let a = c .before .before .before .before .before .before .before .before .before .before .args in
-    omega (arith, c .before .before .before .before .before .before .before .before .before .before .pre, c .before .before .before .before .before .before .before .before .before .before .good .0 .0, c .before .before .before .before .before .before .put-literal .ensures .count, c .before .before .put-number .ensures .count, field-length (a .p .now) (a .x))
+    let s = c .before .before .before .before .before .before .before .before .before .before in
+    omega (arith, s .good .0 .0, second-within (room s) (c .before .before .before .before .before .before .put-literal .ensures) (c .before .before .put-number .ensures))
 
 same-length : tie.Need-same-length
 same-length c = search needs
@@ -45,8 +38,8 @@ same-length c = search needs
 returns : tie.Need-returns
 unfolding fieldText
 returns c =
-    let a = c .before .before .before .before .before .before .before .before .before .before .args in
-    put-then (c .before .before .before .before .before .before .put-literal .ensures) (c .before .before .put-number .ensures) (omega (arith, c .before .before .before .before .before .before .before .before .before .before .pre, field-length (a .p .now) (a .x)))
+    let s = c .before .before .before .before .before .before .before .before .before .before in
+    put-then (c .before .before .before .before .before .before .put-literal .ensures) (c .before .before .put-number .ensures) (two-first (room s))
 
 pub put-field-spec : {M : Type 1} → statement M
 put-field-spec =

@@ -1,57 +1,50 @@
--- `record::put_one` meets its contract. Two writers, one after the other: `put-then`.
--- Assumes nothing.
-use Prim.Native.Nat.{ℕ, _+_}
-use mathlib.Core.Path.{subst}
-use mathlib.Core.List.{List}
+-- `record::put_one` meets its contract. A field, and a text straight after it. Assumes nothing.
 use native.Mathlib.Omega.{arith}
-use Rattle.text.proofs.Over.{put-then, length-part, back}
-use Rattle.text.specs.Writing.{Put}
-use Rattle.record.proofs.Laws.{one-length, one-parts}
 use borrow.Author.Needs.{needs}
+use Rattle.text.proofs.Over.{put-as, put-then}
+use Rattle.text.proofs.Writers.{Two, two-first, second-starts, second-room, second-within}
+use Rattle.record.specs.Line.{fieldText}
+use Rattle.record.proofs.Laws.{field-length, one-length, one-parts}
 use Rattle.record.proofs.put_one.Statement.{statement}
 use Rattle.record.proofs.put_one.Tie as tie
 
+room : (c : tie.Start) → Two (fieldText (c .args .p .now) (c .args .x)) (c .args .e .now) (c .args .out .now)
+room c =
+    let a = c .args in
+    record { fit = omega (arith, c .pre, one-length (a .p .now) (a .x) (a .e .now), field-length (a .p .now) (a .x)) }
+
 put-field-requires : tie.Need-put-field-requires
-put-field-requires c κs =
-    let a = c .before .before .before .before .args in
-    omega (arith, c .before .before .before .before .pre, one-length (a .p .now) (a .x) (a .e .now))
+put-field-requires c κs = two-first (room (c .before .before .before .before))
 
 sub-put-literal : tie.Need-sub-put-literal
-sub-put-literal c =
-    let a = c .before .before .before .before .before .before .before .args in
-    let w = c .before .before .put-field in
-    omega (arith, c .before .before .before .before .before .before .before .pre, w .kept .0, w .ensures .count, one-length (a .p .now) (a .x) (a .e .now))
+sub-put-literal c = second-starts (room (c .before .before .before .before .before .before .before)) (c .before .before .put-field .ensures)
 
 part-put-literal-start : tie.Need-part-put-literal-start
-part-put-literal-start c =
-    let a = c .before .before .before .before .before .before .before .args in
-    let w = c .before .before .put-field in
-    omega (arith, c .before .before .before .before .before .before .before .pre, w .kept .0, w .ensures .count, one-length (a .p .now) (a .x) (a .e .now))
+part-put-literal-start c = sub-put-literal c
 
 part-put-literal-end : tie.Need-part-put-literal-end
 part-put-literal-end c = search needs
 
 put-literal-requires : tie.Need-put-literal-requires
 put-literal-requires c κs =
-    let a = c .before .before .before .before .before .before .before .before .args in
-    let w = c .before .before .before .put-field in
-    omega (arith, c .before .before .before .before .before .before .before .before .pre, w .kept .0, w .ensures .count, length-part (w .result) (w .last .0), one-length (a .p .now) (a .x) (a .e .now))
+    let d = c .before in
+    second-room (room (d .before .before .before .before .before .before .before)) (d .before .before .put-field .ensures)
 
 add-result : tie.Need-add-result
 add-result c =
-    let a = c .before .before .before .before .before .before .before .before .before .before .before .args in
-    omega (arith, c .before .before .before .before .before .before .before .before .before .before .before .pre, c .before .before .before .before .before .before .before .before .before .before .before .good .0 .0, c .before .before .before .before .before .before .put-field .ensures .count, c .before .before .put-literal .ensures .count, one-length (a .p .now) (a .x) (a .e .now))
+    let d = c .before .before .before .before in
+    let s = d .before .before .before .before .before .before .before in
+    omega (arith, s .good .0 .0, second-within (room s) (d .before .before .put-field .ensures) (c .before .before .put-literal .ensures))
 
 same-length : tie.Need-same-length
 same-length c = search needs
 
 returns : tie.Need-returns
 returns c =
-    let a = c .before .before .before .before .before .before .before .before .before .before .before .args in
-    let w = c .before .before .before .before .before .before .put-field in
-    let e = c .before .before .put-literal in
-    subst (λ (l : List ℕ). Put l (a .out .now) (back (w .result) (w .last .0) (e .last .0)) (w .result + e .result)) (one-parts (a .p .now) (a .x) (a .e .now))
-    (put-then (w .ensures) (e .ensures) (omega (arith, c .before .before .before .before .before .before .before .before .before .before .before .pre, one-length (a .p .now) (a .x) (a .e .now))))
+    let d = c .before .before .before .before in
+    let s = d .before .before .before .before .before .before .before in
+    put-as _ _ (one-parts (s .args .p .now) (s .args .x) (s .args .e .now))
+    (put-then (d .before .before .put-field .ensures) (c .before .before .put-literal .ensures) (two-first (room s)))
 
 pub put-one-spec : {M : Type 1} → statement M
 put-one-spec =

@@ -1,41 +1,85 @@
--- `record::put_pair` meets its contract. A line of three figures.
--- Assumes nothing.
+-- `record::put_pair` meets its contract. The three parts of a line, one straight after the other. Assumes nothing.
 use native.Mathlib.Omega.{arith}
 use native.Mathlib.Nat.{le-trans}
 use borrow.Author.Needs.{needs}
-use Rattle.record.proofs.Laws.{three-room}
+use Rattle.text.proofs.Over.{put-as}
+use Rattle.text.proofs.Writers.{Three, three-two, two-first, second-starts, second-room, second-within, third-starts, third-room, third-within, put-third}
+use Rattle.record.specs.Line.{firstText, secondText, levelText}
+use Rattle.record.proofs.Laws.{three-room, three-parts}
 use Rattle.record.proofs.put_pair.Statement.{statement}
 use Rattle.record.proofs.put_pair.Tie as tie
 
-slice-aggregate-put-three : tie.Need-slice-aggregate-put-three
-slice-aggregate-put-three c = search needs
+room : (c : tie.Start) → Three (firstText (c .args .a)) (secondText (c .args .b)) (levelText (c .args .level)) (c .args .out .now)
+room c = record { fit = le-trans (three-room _ _ _ _ _ _ _ (omega arith) (omega arith) (omega arith)) (c .pre) }
 
-slice-aggregate-put-three-2 : tie.Need-slice-aggregate-put-three-2
-slice-aggregate-put-three-2 c = search needs
+put-first-requires : tie.Need-put-first-requires
+put-first-requires c κs = two-first (three-two (room (c .before .before)))
 
-slice-aggregate-put-three-3 : tie.Need-slice-aggregate-put-three-3
-slice-aggregate-put-three-3 c = search needs
+sub-put-second : tie.Need-sub-put-second
+sub-put-second c = second-starts (three-two (room (c .before .before .before .before .before))) (c .before .before .put-first .ensures)
 
-slice-aggregate-put-three-4 : tie.Need-slice-aggregate-put-three-4
-slice-aggregate-put-three-4 c = search needs
+part-put-second-start : tie.Need-part-put-second-start
+part-put-second-start c = sub-put-second c
 
-put-three-requires : tie.Need-put-three-requires
-put-three-requires c κs = le-trans (three-room _ _ _ _ _ _ _ (omega arith) (omega arith) (omega arith)) (omega (arith, c .before .before .before .before .before .before .pre))
+part-put-second-end : tie.Need-part-put-second-end
+part-put-second-end c = search needs
+
+put-second-requires : tie.Need-put-second-requires
+put-second-requires c κs = second-room (three-two (room (c .before .before .before .before .before .before))) (c .before .before .before .put-first .ensures)
+
+add-at : tie.Need-add-at
+add-at c =
+    let s = c .before .before .before .before .before .before .before .before .before in
+    omega (arith, s .good .0 .0, second-within (three-two (room s)) (c .before .before .before .before .before .before .put-first .ensures) (c .before .before .put-second .ensures))
+
+sub-put-level : tie.Need-sub-put-level
+sub-put-level c = third-starts (room (c .before .before .before .before .before .before .before .before .before)) (c .before .before .before .before .before .before .put-first .ensures) (c .before .before .put-second .ensures)
+
+part-put-level-start : tie.Need-part-put-level-start
+part-put-level-start c = sub-put-level c
+
+part-put-level-end : tie.Need-part-put-level-end
+part-put-level-end c = search needs
+
+put-level-requires : tie.Need-put-level-requires
+put-level-requires c κs =
+    let d = c .before in
+    third-room (room (d .before .before .before .before .before .before .before .before .before)) (d .before .before .before .before .before .before .put-first .ensures) (d .before .before .put-second .ensures)
+
+add-result : tie.Need-add-result
+add-result c =
+    let d = c .before .before .before .before in
+    let s = d .before .before .before .before .before .before .before .before .before in
+    omega (
+      arith,
+      s .good .0 .0,
+      third-within (room s) (d .before .before .before .before .before .before .put-first .ensures) (d .before .before .put-second .ensures) (c .before .before .put-level .ensures),
+    )
 
 same-length : tie.Need-same-length
 same-length c = search needs
 
 returns : tie.Need-returns
-returns c = search needs
+returns c =
+    let d = c .before .before .before .before in
+    let s = d .before .before .before .before .before .before .before .before .before in
+    put-as _ _ (three-parts _ (s .args .a) _ (s .args .b) _ (s .args .level) _)
+    (put-third (room s) (d .before .before .before .before .before .before .put-first .ensures) (d .before .before .put-second .ensures) (c .before .before .put-level .ensures))
 
 pub put-pair-spec : {M : Type 1} → statement M
 put-pair-spec =
     tie.close
     (tie.spec
-    slice-aggregate-put-three
-    slice-aggregate-put-three-2
-    slice-aggregate-put-three-3
-    slice-aggregate-put-three-4
-    put-three-requires
+    put-first-requires
+    sub-put-second
+    part-put-second-start
+    part-put-second-end
+    put-second-requires
+    add-at
+    sub-put-level
+    part-put-level-start
+    part-put-level-end
+    put-level-requires
+    add-result
     same-length
     returns)
