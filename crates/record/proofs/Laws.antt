@@ -1,6 +1,6 @@
 -- Laws of the lines of a record: how long they are, of which pieces they are made, and that those of `model` are these. Assumes nothing.
 use Prim.Native.Nat.{ℕ, _+_, _-_, _≤_}
-use mathlib.Core.Path.{_≡_, refl, subst}
+use mathlib.Core.Path.{_≡_, refl}
 use mathlib.Core.Logic.{_≢_}
 use mathlib.Core.List.{List, _++_, append-assoc}
 use native.Mathlib.Omega.{arith}
@@ -8,9 +8,11 @@ use lib.ListN.{length, length-append}
 use Rattle.model.specs.Text.{bytes, decimal, largest}
 use Rattle.model.specs.State.{State, pairs}
 use Rattle.model.specs.Change.{Answer}
+use Rattle.model.specs.Trace.{rackLine}
 use Rattle.model.specs.Record.{answerLine, pairLine, endLine}
 use Rattle.model.specs.Run.{badLine}
 use Rattle.text.specs.Writing.{Put}
+use Rattle.text.proofs.Over.{put-as}
 use Rattle.text.proofs.Lengths.{figure-most, one-most}
 use Rattle.text.proofs.Answers.{done-line, refused-line}
 use Rattle.record.specs.Line.{fieldText, oneText, threeText, doneText, refusedText, pairText, endText}
@@ -34,6 +36,11 @@ pub three-parts : (p : List ℕ) (x : ℕ) (q : List ℕ) (y : ℕ) (r : List �
 unfolding fieldText oneText threeText
 three-parts p x q y r z e = simp append-assoc
 
+-- line 1 is a line of one figure
+pub rack-parts : (n : ℕ) → oneText (bytes "(rack (boards ") n (bytes "))\n") ≡ rackLine n
+unfolding oneText rackLine
+rack-parts n = refl
+
 -- the line of a run turned back is a field and a line of one figure
 pub bad-parts : (k l : ℕ) → fieldText (bytes "(bad ") k ++ oneText (bytes " ") l (bytes ")\n") ≡ badLine k l
 unfolding fieldText oneText badLine
@@ -54,10 +61,16 @@ three-room p x q y r z e h k l = omega (arith, field-room p x h, field-room q y 
 
 -- A line that was written, said of equal figures.
 
+pub put-one-as : (p : List ℕ) (x x′ : ℕ) (e : List ℕ) {old new : List ℕ} {k : ℕ} → x ≡ x′ → Put (oneText p x e) old new k → Put (oneText p x′ e) old new k
+put-one-as p x x′ e h = put-as _ _ (λ t. oneText p (h t) e)
+
+pub put-bad-as : (x x′ y y′ : ℕ) {old new : List ℕ} {k : ℕ} → x ≡ x′ → y ≡ y′ → Put (badLine x y) old new k → Put (badLine x′ y′) old new k
+put-bad-as x x′ y y′ h i = put-as _ _ (λ t. badLine (h t) (i t))
+
 pub put-three-as : (p : List ℕ) (x : ℕ) (q : List ℕ) (y : ℕ) (r : List ℕ) (z : ℕ) (e old new : List ℕ) (k : ℕ)
     → Put (threeText p x q y r z e) old new k
     → (x′ y′ z′ : ℕ) → x ≡ x′ → y ≡ y′ → z ≡ z′ → Put (threeText p x′ q y′ r z′ e) old new k
-put-three-as p x q y r z e old new k w x′ y′ z′ h i j = subst (λ (l : List ℕ). Put l old new k) (λ t. threeText p (h t) q (i t) r (j t) e) w
+put-three-as p x q y r z e old new k w x′ y′ z′ h i j = put-as _ _ (λ t. threeText p (h t) q (i t) r (j t) e) w
 
 -- The lines of `model`.
 

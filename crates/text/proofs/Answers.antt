@@ -12,7 +12,8 @@ use Rattle.model.proofs.Tests.{eq?, eqb-yes, eqb-no}
 use Rattle.text.proofs.Lengths.{one-most, three-most}
 
 pub done-line : (x : Answer) → x .number ≡ 0
-    → answerLine x ≡ bytes "(done (draws " ++ (decimal (x .draws) ++ (bytes ") (falls " ++ (decimal (x .falls) ++ (bytes ") (pairs " ++ (decimal (x .pairs) ++ bytes "))\n")))))
+    → answerLine x ≡ bytes "(done (draws " ++ (decimal (x .draws)
+    ++ (bytes ") (falls " ++ (decimal (x .falls) ++ (bytes ") (pairs " ++ (decimal (x .pairs) ++ bytes "))\n")))))
 unfolding answerLine
 done-line x h = rw (eqb-yes (x .number) 0 h, answerLine)
 
@@ -30,6 +31,12 @@ pub record Figures (x : Answer) : Type 0 where
 -- whatever they are, its line has at most 64 bytes
 pub answer-most : (x : Answer) → Figures x → length (answerLine x) ≤ 64
 answer-most x h = elim (eq? (x .number) 0) [
-  | inl p ↦ rw (done-line x p) (omega (arith, three-most (bytes "(done (draws ") (x .draws) (bytes ") (falls ") (x .falls) (bytes ") (pairs ") (x .pairs) (bytes "))\n") (h .draws-fit) (h .falls-fit) (h .pairs-fit)))
+  | inl p ↦
+      let done = bytes "(done (draws " in
+      let falls = bytes ") (falls " in
+      let pairs = bytes ") (pairs " in
+      let end = bytes "))\n" in
+      rw (done-line x p)
+      (omega (arith, three-most done (x .draws) falls (x .falls) pairs (x .pairs) end (h .draws-fit) (h .falls-fit) (h .pairs-fit)))
   | inr p ↦ rw (refused-line x p) (omega (arith, one-most (bytes "(refused ") (x .number) (bytes ")\n") (h .number-fits)))
 ]

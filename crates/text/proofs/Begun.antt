@@ -1,42 +1,45 @@
 -- A number that was read digit by digit, when the next byte is a digit and when it is none. Assumes nothing.
-use Prim.Native.Nat.{ℕ, _+_, _-_, _*_, _^_, _≤_, _<_}
+use Prim.Native.Nat.{ℕ, _+_, _*_, _^_, _≤_, _<_}
 use mathlib.Core.Path.{_≡_, sym, ap, _∙_}
 use mathlib.Core.Bool.{false}
-use mathlib.Core.List.{List, _++_}
+use mathlib.Core.List.{List, [], _∷_, _++_, append-assoc}
 use native.Mathlib.Omega.{arith}
 use native.Mathlib.Nat.{pow-suc, pow-le-pow-right}
 use native.Mathlib.Numerals.{add-one}
 use lib.ListN.{length, getD, drop}
-use Rattle.model.specs.Text.{decimal, largest}
+use Rattle.model.specs.Text.{decimal}
 use Rattle.text.specs.Number.{isDigit, DigitOf, NumberThen, Begins}
-use Rattle.text.proofs.Decimals.{digit-in, no-digit, leading-zero, too-large}
-use Rattle.text.proofs.Standing.{front-of-drop, digit-start, digit-turn, digit-zero}
+use Rattle.text.proofs.Decimals.{decimal-small, decimal-snoc, digit-in, leading-zero, too-large}
+use Rattle.text.proofs.Standing.{front-of-drop, drop-more}
 
 -- the byte at i is no digit: what stands before it goes on no further
 pub ends-at : (s : List ℕ) (i d : ℕ) → DigitOf (getD s i 0) d → 9 < d → isDigit (getD (drop i s) 0 0) ≡ false
 ends-at s i d h k = ap isDigit (front-of-drop s i) ∙ h .none k
 
--- the first digit, and that it is the whole number
-pub one-digit : (s : List ℕ) (at d : ℕ) → at < length s → DigitOf (getD s at 0) d → d ≤ 9 → drop at s ≡ decimal d ++ drop (at + 1) s
-one-digit s at d h f k =
-    let b = f .is k in
-    let e : getD s at 0 - 48 ≡ d = omega arith in
-    digit-start s at h (omega arith) (omega arith) ∙ ap (λ (x : ℕ). decimal x ++ drop (at + 1) s) e
+-- the byte at i is the digit d
+digit-next : (s : List ℕ) (i d : ℕ) → i < length s → DigitOf (getD s i 0) d → d ≤ 9 → drop i s ≡ (48 + d) ∷ drop (i + 1) s
+digit-next s i d h f k = drop-more s i h ∙ ap (λ (x : ℕ). x ∷ drop (i + 1) s) (f .is k)
 
--- a digit more
+-- the first digit
+pub one-digit : (s : List ℕ) (at d : ℕ) → at < length s → DigitOf (getD s at 0) d → d ≤ 9 → drop at s ≡ decimal d ++ drop (at + 1) s
+one-digit s at d h f k = digit-next s at d h f k ∙ ap (λ (l : List ℕ). l ++ drop (at + 1) s) (sym (decimal-small d (omega arith)))
+
+-- a digit more, after a number that is not 0
 pub next-digit : (s : List ℕ) (at i v d : ℕ) → drop at s ≡ decimal v ++ drop i s → i < length s → 0 < v → DigitOf (getD s i 0) d → d ≤ 9
     → drop at s ≡ decimal (v * 10 + d) ++ drop (i + 1) s
 next-digit s at i v d e h p f k =
-    let b = f .is k in
-    let q : getD s i 0 - 48 ≡ d = omega arith in
-    digit-turn s at i v e h p (omega arith) (omega arith) ∙ ap (λ (x : ℕ). decimal (v * 10 + x) ++ drop (i + 1) s) q
+    e
+    ∙ ap (λ (l : List ℕ). decimal v ++ l) (digit-next s i d h f k)
+    ∙ sym (append-assoc (decimal v) ((48 + d) ∷ []) (drop (i + 1) s))
+    ∙ ap (λ (l : List ℕ). l ++ drop (i + 1) s) (sym (decimal-snoc v d p (omega arith)))
 
 -- the number 0 and a digit more
 pub zero-first : (s : List ℕ) (at i v d : ℕ) → drop at s ≡ decimal v ++ drop i s → i < length s → v ≡ 0 → DigitOf (getD s i 0) d → d ≤ 9
     → (n : ℕ) (rest : List ℕ) → NumberThen (drop at s) n rest → ⊥
 zero-first s at i v d e h z f k n rest w =
-    let b = f .is k in
-    leading-zero _ _ (digit-zero s at i v e h z) (digit-in _ (omega arith) (omega arith)) w
+    let zero = ap (λ (m : ℕ). decimal m ++ drop i s) z ∙ ap (λ (l : List ℕ). l ++ drop i s) (decimal-small 0 (omega arith)) in
+    let stands = e ∙ zero ∙ ap (λ (l : List ℕ). 48 ∷ l) (digit-next s i d h f k) in
+    leading-zero _ _ stands (digit-in (48 + d) (omega arith) (omega arith)) w
 
 -- two digits, the first of them not 0
 pub begins-two : (s : List ℕ) (at v d : ℕ) → at + 1 < length s → DigitOf (getD s at 0) v → v ≤ 9 → 0 < v → DigitOf (getD s (at + 1) 0) d → d ≤ 9
@@ -49,7 +52,8 @@ begins-two s at v d h f k p g l =
       most = omega arith;
     }
 
-pub begins-more : (s : List ℕ) (at k v d : ℕ) → Begins s at k v → at + k < length s → DigitOf (getD s (at + k) 0) d → d ≤ 9 → Begins s at (k + 1) (v * 10 + d)
+pub begins-more : (s : List ℕ) (at k v d : ℕ) → Begins s at k v → at + k < length s → DigitOf (getD s (at + k) 0) d → d ≤ 9
+    → Begins s at (k + 1) (v * 10 + d)
 begins-more s at k v d b h f l =
     let n : at + k + 1 ≡ at + (k + 1) = omega arith in
     let p : 10 ^ (k + 1) ≡ 10 ^ k * 10 = rw (add-one, pow-suc) in

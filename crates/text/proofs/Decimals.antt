@@ -41,7 +41,24 @@ pub decimal-large : (n : ℕ) → 10 ≤ n → decimal n ≡ decimal (n / 10) ++
 unfolding decimal
 decimal-large n h = step-large n n h ∙ ap (λ (l : List ℕ). l ++ ((48 + n % 10) ∷ [])) (enough n (suc (n / 10)) (n / 10) (omega arith) (omega arith))
 
--- and how long they are
+-- what holds of one digit, and of a form with a digit more if of the form before it, holds of every number's form
+module _ (P : ℕ → List ℕ → Type 0)
+    (one : (n : ℕ) → n < 10 → P n ((48 + n) ∷ []))
+    (more : (n : ℕ) (l : List ℕ) → 10 ≤ n → P (n / 10) l → P n (l ++ ((48 + n % 10) ∷ []))) where
+  all-in : (f n : ℕ) → n < f → P n (decimalIn f n)
+  all-in zero n h = absurd (omega arith)
+  all-in (suc f) n h =
+      let ih = all-in f (n / 10) in
+      elim (le? 10 n) [
+        | inr p ↦ subst (P n) (sym (step-small f n p)) (one n p)
+        | inl p ↦ subst (P n) (sym (step-large f n p)) (more n (decimalIn f (n / 10)) p (ih (omega arith)))
+      ]
+
+  pub decimal-all : (n : ℕ) → P n (decimal n)
+  unfolding decimal
+  decimal-all n = all-in (suc n) n (omega arith)
+
+-- how long they are
 pub length-small : (n : ℕ) → n < 10 → length (decimal n) ≡ 1
 length-small n h = ap length (decimal-small n h)
 
@@ -52,7 +69,9 @@ pub decimal-snoc : (n d : ℕ) → 0 < n → d < 10 → decimal (n * 10 + d) ≡
 decimal-snoc n d h k =
     let q : (n * 10 + d) / 10 ≡ n = omega arith in
     let r : (n * 10 + d) % 10 ≡ d = omega arith in
-    decimal-large (n * 10 + d) (omega arith) ∙ ap (λ (m : ℕ). decimal m ++ ((48 + (n * 10 + d) % 10) ∷ [])) q ∙ ap (λ (m : ℕ). decimal n ++ ((48 + m) ∷ [])) r
+    decimal-large (n * 10 + d) (omega arith)
+    ∙ ap (λ (m : ℕ). decimal m ++ ((48 + (n * 10 + d) % 10) ∷ [])) q
+    ∙ ap (λ (m : ℕ). decimal n ++ ((48 + m) ∷ [])) r
 
 -- Digits.
 
@@ -64,12 +83,9 @@ pub digit-below : (b : ℕ) → b < 48 → isDigit b ≡ false
 unfolding isDigit
 digit-below b h = simp (lt-leb _ _ h)
 
-digit-above : (b : ℕ) → 57 < b → isDigit b ≡ false
-unfolding isDigit
-digit-above b h = elim (le? 48 b) [ inr p ↦ digit-below b p | inl p ↦ simp (le-leb 48 b p, lt-leb b 57 h) ]
-
 pub digit-out : (b : ℕ) → (48 ≤ b → 57 < b) → isDigit b ≡ false
-digit-out b h = elim (le? 48 b) [ inr p ↦ digit-below b p | inl p ↦ digit-above b (h p) ]
+unfolding isDigit
+digit-out b h = elim (le? 48 b) [ inr p ↦ digit-below b p | inl p ↦ simp (le-leb 48 b p, lt-leb b 57 (h p)) ]
 
 -- the digits that t starts with
 lead : List ℕ → List ℕ
@@ -94,19 +110,11 @@ digits-snoc : {t : List ℕ} (b : ℕ) → Digits t → isDigit b ≡ true → D
 digits-snoc b none k = more k none
 digits-snoc b (more h d) k = more h (digits-snoc b d k)
 
-digits-in : (f n : ℕ) → Digits (decimalIn f n)
-unfolding decimalIn
-digits-in zero n = none
-digits-in (suc f) n =
-    let ih = digits-in f (n / 10) in
-    elim (le? 10 n) [
-      | inr p ↦ subst Digits (sym (step-small f n p)) (more (digit-in (48 + n) (omega arith) (omega arith)) none)
-      | inl p ↦ subst Digits (sym (step-large f n p)) (digits-snoc (48 + n % 10) ih (digit-in (48 + n % 10) (omega arith) (omega arith)))
-    ]
-
 pub decimal-digits : (n : ℕ) → Digits (decimal n)
-unfolding decimal
-decimal-digits n = digits-in (suc n) n
+decimal-digits n =
+    decimal-all (λ (m : ℕ) (l : List ℕ). Digits l)
+    (λ m h. more (digit-in (48 + m) (omega arith) (omega arith)) none)
+    (λ m l h d. digits-snoc (48 + m % 10) d (digit-in (48 + m % 10) (omega arith) (omega arith))) n
 
 -- the digits that d ++ t starts with are d's, and then t's
 lead-append : {d : List ℕ} (t : List ℕ) → Digits d → lead (d ++ t) ≡ d ++ lead t
@@ -119,11 +127,6 @@ valueFrom : ℕ → List ℕ → ℕ
 valueFrom a [] = a
 valueFrom a (b ∷ t) = valueFrom (a * 10 + (b - 48)) t
 
-valueFrom-snoc : (a : ℕ) (t : List ℕ) (b : ℕ) → valueFrom a (t ++ (b ∷ [])) ≡ valueFrom a t * 10 + (b - 48)
-unfolding valueFrom
-valueFrom-snoc a [] b = refl
-valueFrom-snoc a (x ∷ t) b = valueFrom-snoc (a * 10 + (x - 48)) t b
-
 valueFrom-append : (a : ℕ) (t u : List ℕ) → valueFrom a (t ++ u) ≡ valueFrom (valueFrom a t) u
 unfolding valueFrom
 valueFrom-append a [] u = refl
@@ -134,29 +137,26 @@ unfolding valueFrom
 valueFrom-le a [] = omega arith
 valueFrom-le a (x ∷ t) = omega (arith, valueFrom-le (a * 10 + (x - 48)) t)
 
-one : (k : ℕ) → valueFrom 0 ((48 + k) ∷ []) ≡ k
+value-first : (m : ℕ) → m < 10 → valueFrom 0 ((48 + m) ∷ []) ≡ m
 unfolding valueFrom
-one k = omega arith
+value-first m h = omega arith
 
-value-in : (f n : ℕ) → n < f → valueFrom 0 (decimalIn f n) ≡ n
-value-in zero n h = absurd (omega arith)
-value-in (suc f) n h =
-    let ih = value-in f (n / 10) in
-    elim (le? 10 n) [
-      | inr p ↦ ap (valueFrom 0) (step-small f n p) ∙ one n
-      | inl p ↦
-          ap (valueFrom 0) (step-large f n p) ∙ valueFrom-snoc 0 (decimalIn f (n / 10)) (48 + n % 10) ∙ ap (λ (m : ℕ). m * 10 + ((48 + n % 10) - 48)) (ih (omega arith)) ∙ omega arith
-    ]
+value-more : (m : ℕ) (l : List ℕ) → 10 ≤ m → valueFrom 0 l ≡ m / 10 → valueFrom 0 (l ++ ((48 + m % 10) ∷ [])) ≡ m
+unfolding valueFrom
+value-more m l h e = valueFrom-append 0 l ((48 + m % 10) ∷ []) ∙ omega arith
 
 value : (n : ℕ) → valueFrom 0 (decimal n) ≡ n
-unfolding decimal
-value n = value-in (suc n) n (omega arith)
+value n = decimal-all (λ (m : ℕ) (l : List ℕ). valueFrom 0 l ≡ m) value-first value-more n
 
 -- At most one number stands at a text's start.
 
 -- a number's digits are all the digits that the text starts with
 leads : {t : List ℕ} {n : ℕ} {rest : List ℕ} → NumberThen t n rest → lead t ≡ decimal n
-leads {t} {n} {rest} h = ap lead (h .written) ∙ lead-append rest (decimal-digits n) ∙ ap (λ (l : List ℕ). decimal n ++ l) (lead-none rest (h .ends)) ∙ append-nil (decimal n)
+leads {t} {n} {rest} h =
+    ap lead (h .written)
+    ∙ lead-append rest (decimal-digits n)
+    ∙ ap (λ (l : List ℕ). decimal n ++ l) (lead-none rest (h .ends))
+    ∙ append-nil (decimal n)
 
 pub same-number : {t : List ℕ} {n m : ℕ} {r u : List ℕ} → NumberThen t n r → NumberThen t m u → n ≡ m
 same-number {t} {n} {m} h k = sym (value n) ∙ ap (valueFrom 0) (sym (leads h) ∙ leads k) ∙ value m
@@ -169,28 +169,22 @@ same-rest {t} {n} {m} {r} {u} h k =
 pub at-least : {t : List ℕ} {n : ℕ} {r : List ℕ} (m : ℕ) (u : List ℕ) → NumberThen t n r → t ≡ decimal m ++ u → m ≤ n
 at-least {t} {n} m u h e =
     let l : decimal n ≡ decimal m ++ lead u = sym (leads h) ∙ ap lead e ∙ lead-append u (decimal-digits m) in
-    let v : n ≡ valueFrom m (lead u) = sym (value n) ∙ ap (valueFrom 0) l ∙ valueFrom-append 0 (decimal m) (lead u) ∙ ap (λ (k : ℕ). valueFrom k (lead u)) (value m) in
+    let w = valueFrom-append 0 (decimal m) (lead u) ∙ ap (λ (k : ℕ). valueFrom k (lead u)) (value m) in
+    let v : n ≡ valueFrom m (lead u) = sym (value n) ∙ ap (valueFrom 0) l ∙ w in
     omega (arith, valueFrom-le m (lead u))
 
 -- a decimal form starts with a byte b, which is the digit 0 only in the form of 0
 Front : ℕ → List ℕ → Type 0
 Front n l = (b : ℕ) × (t : List ℕ) × (l ≡ b ∷ t) × (b ≡ 48 → n ≡ 0)
 
-front-in : (f n : ℕ) → n < f → Front n (decimalIn f n)
-unfolding Front
-front-in zero n h = absurd (omega arith)
-front-in (suc f) n h =
-    let ih = front-in f (n / 10) in
-    elim (le? 10 n) [
-      | inr p ↦ (48 + n, [], step-small f n p, (λ e. omega arith))
-      | inl p ↦
-          let (b, t, e, z) = ih (omega arith) in
-          (b, t ++ ((48 + n % 10) ∷ []), step-large f n p ∙ ap (λ (l : List ℕ). l ++ ((48 + n % 10) ∷ [])) e, (λ w. absurd (omega (arith, z w))))
-    ]
-
 front : (n : ℕ) → Front n (decimal n)
-unfolding decimal
-front n = front-in (suc n) n (omega arith)
+unfolding Front
+front n =
+    decimal-all Front
+    (λ m h. (48 + m, [], refl, (λ e. omega arith)))
+    (λ m l h f.
+    let (b, t, e, z) = f in
+    (b, t ++ ((48 + m % 10) ∷ []), ap (λ (u : List ℕ). u ++ ((48 + m % 10) ∷ [])) e, (λ w. absurd (omega (arith, z w))))) n
 
 first-digit : {d : List ℕ} (b : ℕ) (t : List ℕ) → Digits d → d ≡ b ∷ t → isDigit b ≡ true
 first-digit b t none e = let z : _≡_ {A = ℕ} 0 1 = cc in absurd (omega arith)

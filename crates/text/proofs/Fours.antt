@@ -23,8 +23,8 @@ bytes-same f g e =
 byte : (s p : List ℕ) {i j k l : ℕ} → i ≡ k → j ≡ l → getD s k 0 ≡ getD p l 0 → getD s i 0 ≡ getD p j 0
 byte s p m n e = ap (λ (i : ℕ). getD s i 0) m ∙ e ∙ ap (λ (j : ℕ). getD p j 0) (sym n)
 
-pub four-turn : (s : List ℕ) (at : ℕ) (p : List ℕ) (k x y : ℕ) → Starts s at p k → k + 4 ≤ length p → at + length p ≤ length s → FourAt s (at + k) x → FourAt p k y
-    → x ≡ y → Starts s at p (k + 4)
+pub four-turn : (s : List ℕ) (at : ℕ) (p : List ℕ) (k x y : ℕ) → Starts s at p k → k + 4 ≤ length p → at + length p ≤ length s
+    → FourAt s (at + k) x → FourAt p k y → x ≡ y → Starts s at p (k + 4)
 four-turn s at p k x y e h l f g q =
     let (b0, b1, b2, b3) = bytes-same f g q in
     let i1 : at + (k + 1) ≡ at + k + 1 = omega arith in
@@ -40,8 +40,8 @@ four-turn s at p k x y e h l f g q =
     subst (Starts s at p) j4 e4
 
 -- p does not stand where four of its bytes differ
-pub four-differs : (s : List ℕ) (at : ℕ) (p : List ℕ) (k x y : ℕ) (rest : List ℕ) → k + 4 ≤ length p → FourAt s (at + k) x → FourAt p k y → (x ≡ y → ⊥)
-    → drop at s ≡ p ++ rest → ⊥
+pub four-differs : (s : List ℕ) (at : ℕ) (p : List ℕ) (k x y : ℕ) (rest : List ℕ) → k + 4 ≤ length p
+    → FourAt s (at + k) x → FourAt p k y → (x ≡ y → ⊥) → drop at s ≡ p ++ rest → ⊥
 four-differs s at p k x y rest h f g d e =
     let i1 : at + k + 1 ≡ at + (k + 1) = omega arith in
     let i2 : at + k + 2 ≡ at + (k + 2) = omega arith in

@@ -1,5 +1,5 @@
 -- What stands at a position of a text while a number or a fixed text is read there. Assumes nothing.
-use Prim.Native.Nat.{ℕ, _+_, _-_, _*_, _≤_, _<_}
+use Prim.Native.Nat.{ℕ, _+_, _-_, _≤_, _<_}
 use mathlib.Core.Path.{_≡_, sym, ap, _∙_}
 use mathlib.Core.List.{List, [], _∷_, _++_, append-assoc}
 use native.Mathlib.Omega.{arith}
@@ -7,9 +7,8 @@ use native.Mathlib.Nat.{add-zero}
 use native.Mathlib.Numerals.{add-one}
 use lib.ListN.{length, getD, take, drop, length-append, length-drop, drop-of-length-le, List·getD-append}
 use lib.Seq.{getD-drop, drop-cons, take-suc}
-use Rattle.model.specs.Text.{decimal}
 use Rattle.text.specs.Number.{isDigit, NoDigit}
-use Rattle.text.proofs.Decimals.{decimal-small, decimal-snoc, digit-below}
+use Rattle.text.proofs.Decimals.{digit-below}
 
 -- A number at a position of a text.
 
@@ -22,32 +21,6 @@ ends-out s i h = ap (λ (l : List ℕ). isDigit (getD l 0 0)) (drop-of-length-le
 pub drop-more : (s : List ℕ) (i : ℕ) → i < length s → drop i s ≡ getD s i 0 ∷ drop (i + 1) s
 drop-more s i h = rw (add-one, drop-cons s i 0)
 
--- the first digit
-pub digit-start : (s : List ℕ) (at : ℕ) → at < length s → 48 ≤ getD s at 0 → getD s at 0 ≤ 57 → drop at s ≡ decimal (getD s at 0 - 48) ++ drop (at + 1) s
-digit-start s at h k l =
-    let b = getD s at 0 in
-    let e : 48 + (b - 48) ≡ b = omega arith in
-    drop-more s at h ∙ ap (λ (x : ℕ). x ∷ drop (at + 1) s) (sym e) ∙ ap (λ (d : List ℕ). d ++ drop (at + 1) s) (sym (decimal-small (b - 48) (omega arith)))
-
--- one digit more, after a number that is not 0
-pub digit-turn : (s : List ℕ) (at i v : ℕ) → drop at s ≡ decimal v ++ drop i s → i < length s → 0 < v → 48 ≤ getD s i 0 → getD s i 0 ≤ 57
-    → drop at s ≡ decimal (v * 10 + (getD s i 0 - 48)) ++ drop (i + 1) s
-digit-turn s at i v d h p k l =
-    let b = getD s i 0 in
-    let e : 48 + (b - 48) ≡ b = omega arith in
-    d
-    ∙ ap (λ (u : List ℕ). decimal v ++ u) (drop-more s i h ∙ ap (λ (x : ℕ). x ∷ drop (i + 1) s) (sym e))
-    ∙ sym (append-assoc (decimal v) ((48 + (b - 48)) ∷ []) (drop (i + 1) s))
-    ∙ ap (λ (u : List ℕ). u ++ drop (i + 1) s) (sym (decimal-snoc v (b - 48) p (omega arith)))
-
--- one digit more, after the number 0
-pub digit-zero : (s : List ℕ) (at i v : ℕ) → drop at s ≡ decimal v ++ drop i s → i < length s → v ≡ 0 → drop at s ≡ 48 ∷ getD s i 0 ∷ drop (i + 1) s
-digit-zero s at i v d h z =
-    d
-    ∙ ap (λ (u : ℕ). decimal u ++ drop i s) z
-    ∙ ap (λ (u : List ℕ). u ++ drop i s) (decimal-small 0 (omega arith))
-    ∙ ap (λ (u : List ℕ). 48 ∷ u) (drop-more s i h)
-
 -- A fixed text at a position of a text.
 
 pub literal-start : (s : List ℕ) (at : ℕ) (p : List ℕ) → drop at s ≡ take 0 p ++ drop (at + 0) s
@@ -58,7 +31,8 @@ pub literal-turn : (s : List ℕ) (at : ℕ) (p : List ℕ) (k : ℕ) → drop a
 literal-turn s at p k e h l b =
     let n : (at + k) + 1 ≡ at + (k + 1) = omega arith in
     e
-    ∙ ap (λ (u : List ℕ). take k p ++ u) (drop-more s (at + k) l ∙ ap (λ (x : ℕ). x ∷ drop ((at + k) + 1) s) b ∙ ap (λ (m : ℕ). getD p k 0 ∷ drop m s) n)
+    ∙ ap (λ (u : List ℕ). take k p ++ u)
+    (drop-more s (at + k) l ∙ ap (λ (x : ℕ). x ∷ drop ((at + k) + 1) s) b ∙ ap (λ (m : ℕ). getD p k 0 ∷ drop m s) n)
     ∙ sym (append-assoc (take k p) (getD p k 0 ∷ []) (drop (at + (k + 1)) s))
     ∙ ap (λ (u : List ℕ). u ++ drop (at + (k + 1)) s) (sym (take-suc p k 0 h) ∙ ap (λ (m : ℕ). take m p) (sym (add-one k)))
 
@@ -67,7 +41,8 @@ pub literal-same : (s : List ℕ) (at : ℕ) (p : List ℕ) (k : ℕ) (rest : Li
 literal-same s at p k rest h e = sym (getD-drop at s k 0) ∙ ap (λ (l : List ℕ). getD l k 0) e ∙ List·getD-append p rest 0 k h
 
 -- p does not stand where a byte differs, or where too few bytes are left
-pub literal-differs : (s : List ℕ) (at : ℕ) (p : List ℕ) (k : ℕ) (rest : List ℕ) → k < length p → (getD s (at + k) 0 ≡ getD p k 0 → ⊥) → drop at s ≡ p ++ rest → ⊥
+pub literal-differs : (s : List ℕ) (at : ℕ) (p : List ℕ) (k : ℕ) (rest : List ℕ) → k < length p → (getD s (at + k) 0 ≡ getD p k 0 → ⊥)
+    → drop at s ≡ p ++ rest → ⊥
 literal-differs s at p k rest h d e = d (literal-same s at p k rest h e)
 
 pub literal-short : (s : List ℕ) (at : ℕ) (p : List ℕ) (rest : List ℕ) → length s - at < length p → drop at s ≡ p ++ rest → ⊥

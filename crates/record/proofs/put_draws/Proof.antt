@@ -28,12 +28,15 @@ part-put-number-end : tie.Need-part-put-number-end
 part-put-number-end c = search needs
 
 put-number-requires : tie.Need-put-number-requires
-put-number-requires c κs = second-room (room (c .before .before .before .before .before .before .before)) (c .before .before .before .put-literal .ensures)
+put-number-requires c κs =
+    let d = c .before in
+    second-room (room (d .before .before .before .before .before .before)) (d .before .before .put-literal .ensures)
 
 add-result : tie.Need-add-result
 add-result c =
     let s = c .before .before .before .before .before .before .before .before .before .before in
-    omega (arith, s .good .0 .0, second-within (room s) (c .before .before .before .before .before .before .put-literal .ensures) (c .before .before .put-number .ensures))
+    let f = c .before .before .before .before .before .before .put-literal .ensures in
+    omega (arith, s .good .0 .0, second-within (room s) f (c .before .before .put-number .ensures))
 
 same-length : tie.Need-same-length
 same-length c = search needs
@@ -42,7 +45,8 @@ returns : tie.Need-returns
 unfolding fieldText
 returns c =
     let s = c .before .before .before .before .before .before .before .before .before .before in
-    put-then (c .before .before .before .before .before .before .put-literal .ensures) (c .before .before .put-number .ensures) (two-first (room s))
+    let f = c .before .before .before .before .before .before .put-literal .ensures in
+    put-then f (c .before .before .put-number .ensures) (two-first (room s))
 
 pub put-draws-spec : {M : Type 1} → statement M
 put-draws-spec =

@@ -3,7 +3,7 @@
 use native.Mathlib.Omega.{arith}
 use native.Mathlib.Nat.{le-trans}
 use borrow.Author.Needs.{needs}
-use Rattle.record.proofs.Laws.{one-room}
+use Rattle.record.proofs.Laws.{one-room, put-one-as}
 use Rattle.record.proofs.put_end.Statement.{statement}
 use Rattle.record.proofs.put_end.Tie as tie
 
@@ -20,7 +20,7 @@ same-length : tie.Need-same-length
 same-length c = search needs
 
 returns : tie.Need-returns
-returns c = search needs
+returns c = put-one-as _ _ _ _ (omega arith) (c .before .before .put-one .ensures)
 
 pub put-end-spec : {M : Type 1} → statement M
 put-end-spec =

@@ -3,7 +3,8 @@ use native.Mathlib.Omega.{arith}
 use borrow.Author.Needs.{needs}
 use Rattle.model.specs.Text.{bytes, decimal}
 use Rattle.text.proofs.Over.{put-as}
-use Rattle.text.proofs.Writers.{Three, three-two, two-first, second-starts, second-room, second-within, third-starts, third-room, third-within, put-third}
+use Rattle.text.proofs.Writers.{Three, three-two, two-first, second-starts, second-room, second-within}
+use Rattle.text.proofs.Writers.{third-starts, third-room, third-within, put-third}
 use Rattle.record.specs.Line.{fieldText}
 use Rattle.record.proofs.Laws.{one-length, one-parts}
 use Rattle.record.proofs.put_level.Statement.{statement}
@@ -28,15 +29,20 @@ part-put-number-end : tie.Need-part-put-number-end
 part-put-number-end c = search needs
 
 put-number-requires : tie.Need-put-number-requires
-put-number-requires c κs = second-room (three-two (room (c .before .before .before .before .before .before .before))) (c .before .before .before .put-literal .ensures)
+put-number-requires c κs =
+    let d = c .before in
+    second-room (three-two (room (d .before .before .before .before .before .before))) (d .before .before .put-literal .ensures)
 
 add-at : tie.Need-add-at
 add-at c =
     let s = c .before .before .before .before .before .before .before .before .before .before in
-    omega (arith, s .good .0 .0, second-within (three-two (room s)) (c .before .before .before .before .before .before .put-literal .ensures) (c .before .before .put-number .ensures))
+    let f = c .before .before .before .before .before .before .put-literal .ensures in
+    omega (arith, s .good .0 .0, second-within (three-two (room s)) f (c .before .before .put-number .ensures))
 
 sub-put-literal : tie.Need-sub-put-literal
-sub-put-literal c = third-starts (room (c .before .before .before .before .before .before .before .before .before .before)) (c .before .before .before .before .before .before .put-literal .ensures) (c .before .before .put-number .ensures)
+sub-put-literal c =
+    let f = c .before .before .before .before .before .before .put-literal .ensures in
+    third-starts (room (c .before .before .before .before .before .before .before .before .before .before)) f (c .before .before .put-number .ensures)
 
 part-put-literal-start : tie.Need-part-put-literal-start
 part-put-literal-start c = sub-put-literal c
@@ -50,17 +56,16 @@ slice-aggregate-put-literal-2 c = search needs
 put-literal-requires-2 : tie.Need-put-literal-requires-2
 put-literal-requires-2 c κs =
     let d = c .before .before in
-    third-room (room (d .before .before .before .before .before .before .before .before .before .before)) (d .before .before .before .before .before .before .put-literal .ensures) (d .before .before .put-number .ensures)
+    let f = d .before .before .before .before .before .before .put-literal .ensures in
+    third-room (room (d .before .before .before .before .before .before .before .before .before .before)) f (d .before .before .put-number .ensures)
 
 add-result : tie.Need-add-result
 add-result c =
     let d = c .before .before .before .before .before in
     let s = d .before .before .before .before .before .before .before .before .before .before in
-    omega (
-      arith,
-      s .good .0 .0,
-      third-within (room s) (d .before .before .before .before .before .before .put-literal .ensures) (d .before .before .put-number .ensures) (c .before .before .put-literal2 .ensures),
-    )
+    let f = d .before .before .before .before .before .before .put-literal .ensures in
+    let g = d .before .before .put-number .ensures in
+    omega (arith, s .good .0 .0, third-within (room s) f g (c .before .before .put-literal2 .ensures))
 
 same-length : tie.Need-same-length
 same-length c = search needs
@@ -70,8 +75,9 @@ unfolding fieldText
 returns c =
     let d = c .before .before .before .before .before in
     let s = d .before .before .before .before .before .before .before .before .before .before in
-    put-as _ _ (one-parts _ (s .args .level) _)
-    (put-third (room s) (d .before .before .before .before .before .before .put-literal .ensures) (d .before .before .put-number .ensures) (c .before .before .put-literal2 .ensures))
+    let f = d .before .before .before .before .before .before .put-literal .ensures in
+    let g = d .before .before .put-number .ensures in
+    put-as _ _ (one-parts _ (s .args .level) _) (put-third (room s) f g (c .before .before .put-literal2 .ensures))
 
 pub put-level-spec : {M : Type 1} → statement M
 put-level-spec =

@@ -3,9 +3,8 @@
 use native.Mathlib.Omega.{arith}
 use native.Mathlib.Nat.{le-trans}
 use borrow.Author.Needs.{needs}
-use Rattle.model.specs.Trace.{rackLine}
-use Rattle.record.specs.Line.{oneText}
-use Rattle.record.proofs.Laws.{one-room}
+use Rattle.text.proofs.Over.{put-as}
+use Rattle.record.proofs.Laws.{one-room, rack-parts, put-one-as}
 use Rattle.record.proofs.put_rack.Statement.{statement}
 use Rattle.record.proofs.put_rack.Tie as tie
 
@@ -22,8 +21,7 @@ same-length : tie.Need-same-length
 same-length c = search needs
 
 returns : tie.Need-returns
-unfolding rackLine oneText
-returns c = c .before .before .put-one .ensures
+returns c = put-as _ _ (rack-parts _) (put-one-as _ _ _ _ (omega arith) (c .before .before .put-one .ensures))
 
 pub put-rack-spec : {M : Type 1} → statement M
 put-rack-spec =

@@ -1,6 +1,6 @@
 -- `text::put_digits` meets its contract. It calls itself as `decimal` recurses: n / 10 first, then the last digit. The measure is n.
 -- Assumes nothing.
-use Prim.Native.Nat.{ℕ, _+_, _/_, _%_, _<_}
+use Prim.Native.Nat.{ℕ, _+_, _%_, _<_}
 use mathlib.Core.Path.{sym}
 use native.Mathlib.Omega.{arith}
 use lib.ListN.{length-set}
@@ -40,7 +40,7 @@ module _ (t : ℕ) where
   same-length c = simp length-set
 
   returns : lts.Need-returns (below t, reads.Post) (call t) reads.Post
-  returns c = put-digit (c .before .before .args .out .now) (c .before .before .args .n) (c .if1 .taken) (c .before .before .pre .1)
+  returns c = put-digit (omega arith) (c .before .before .pre .1) (omega arith) (omega arith)
 
   -- more than one: there is room for the last digit after the others
 
@@ -74,7 +74,8 @@ module _ (t : ℕ) where
       let s = c .before .before .before .before .before .before in
       let h = c .before .before .before .before .if1 .left in
       put-as _ _ (sym (decimal-large (s .args .n) h))
-      (put-byte (48 + s .args .n % 10) (c .before .before .put-digits .ensures) (omega (arith, s .pre .1, length-large (s .args .n) h)))
+      (put-byte (48 + s .args .n % 10) (c .before .before .put-digits .ensures) (omega (arith, s .pre .1, length-large (s .args .n) h))
+      (omega arith) (omega arith) (omega arith))
 
 pub +put-digits-spec : {M : Type 1} → statement M
 +put-digits-spec =

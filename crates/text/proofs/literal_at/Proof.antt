@@ -26,7 +26,7 @@ sub-if2 c = omega arith
 returns-2 : tie.Need-returns-2 Inv-loop μ-loop
 returns-2 c =
     let a = c .before .before .before .before .args in
-    λ rest e. literal-short (a .s .now) (a .at) (a .p .now) rest (c .if2 .taken) e
+    λ rest e. literal-short (a .s .now) (a .at) (a .p .now) rest (omega arith) e
 
 loop-holds : tie.Need-loop-holds Inv-loop μ-loop
 loop-holds c =
@@ -49,7 +49,9 @@ returns-3 : tie.Need-returns-3 Inv-loop μ-loop
 returns-3 c =
     let a = c .before .before .before .before .before .before .before .before .before .args in
     let l = c .before .before .before .before .loop in
-    λ rest e. four-differs (a .s .now) (a .at) (a .p .now) (l .k) _ _ rest (omega arith) (c .before .before .four .ensures) (c .before .four2 .ensures) (c .if3 .taken) e
+    let f = c .before .before .four .ensures in
+    let g = c .before .four2 .ensures in
+    λ rest e. four-differs (a .s .now) (a .at) (a .p .now) (l .k) _ _ rest (omega arith) f g (c .if3 .taken) e
 
 add-k : tie.Need-add-k Inv-loop μ-loop
 add-k c = omega arith
@@ -61,7 +63,9 @@ loop-again : tie.Need-loop-again Inv-loop μ-loop
 loop-again c =
     let a = c .before .before .before .before .before .before .before .before .before .args in
     let l = c .before .before .before .before .loop in
-    (omega arith, four-turn (a .s .now) (a .at) (a .p .now) (l .k) _ _ (l .inv .1) (omega arith) (omega arith) (c .before .before .four .ensures) (c .before .four2 .ensures) (c .if3 .left))
+    let f = c .before .before .four .ensures in
+    let g = c .before .four2 .ensures in
+    (omega arith, four-turn (a .s .now) (a .at) (a .p .now) (l .k) _ _ (l .inv .1) (omega arith) (omega arith) f g (c .if3 .left))
 
 rest-at-requires : tie.Need-rest-at-requires Inv-loop μ-loop
 rest-at-requires c κs = (omega arith, (c .before .loop .inv .0, c .before .loop .inv .1))

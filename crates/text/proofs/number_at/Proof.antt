@@ -59,7 +59,8 @@ returns-3 : tie.Need-returns-3 Inv-loop μ-loop
 returns-3 c =
     let a = c .before .before .before .before .before .before .before .before .before .before .args in
     let l = c .before .before .before .before .loop in
-    (l .inv .0, record { written = l .inv .2; ends = begun.ends-at (a .s .now) (l .i) _ (c .before .digit2 .ensures) (c .if3 .taken); small = l .inv .1 })
+    let ends = begun.ends-at (a .s .now) (l .i) _ (c .before .digit2 .ensures) (c .if3 .taken) in
+    (l .inv .0, record { written = l .inv .2; ends = ends; small = l .inv .1 })
 
 returns-4 : tie.Need-returns-4 Inv-loop μ-loop
 returns-4 c =
@@ -80,7 +81,9 @@ returns-5 : tie.Need-returns-5 Inv-loop μ-loop
 returns-5 c =
     let a = c .before .before .before .before .before .before .before .before .before .before .before .before .args in
     let l = c .before .before .before .before .before .before .loop in
-    λ n rest h. decimals.too-large _ _ (begun.next-digit (a .s .now) (a .at) (l .i) (l .v) _ (l .inv .2) (omega arith) (omega arith) (c .before .before .before .digit2 .ensures) (omega arith)) (omega arith) h
+    let d = c .before .before .before .digit2 .ensures in
+    let more = begun.next-digit (a .s .now) (a .at) (l .i) (l .v) _ (l .inv .2) (omega arith) (omega arith) d (omega arith) in
+    λ n rest h. decimals.too-large _ _ more (omega arith) h
 
 add-i-2 : tie.Need-add-i-2 Inv-loop μ-loop
 add-i-2 c = omega arith
@@ -92,7 +95,8 @@ loop-again : tie.Need-loop-again Inv-loop μ-loop
 loop-again c =
     let a = c .before .before .before .before .before .before .before .before .before .before .before .before .args in
     let l = c .before .before .before .before .before .before .loop in
-    (omega arith, omega arith, begun.next-digit (a .s .now) (a .at) (l .i) (l .v) _ (l .inv .2) (omega arith) (omega arith) (c .before .before .before .digit2 .ensures) (omega arith))
+    let d = c .before .before .before .digit2 .ensures in
+    (omega arith, omega arith, begun.next-digit (a .s .now) (a .at) (l .i) (l .v) _ (l .inv .2) (omega arith) (omega arith) d (omega arith))
 
 cast-t18 : tie.Need-cast-t18 Inv-loop μ-loop
 cast-t18 c = omega arith

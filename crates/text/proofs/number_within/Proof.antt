@@ -41,10 +41,11 @@ add-t13 c = search needs
 
 returns-2 : tie.Need-returns-2 Inv-loop μ-loop
 returns-2 c =
-    let a = c .before .before .before .before .before .before .before .args in (
-      omega (arith, c .before .before .before .before .before .before .before .pre),
+    let a = c .before .before .before .before .before .before .before .args in
+    let room = c .before .before .before .before .before .before .before .pre in (
+      omega (arith, room),
       record {
-        written = begun.one-digit (a .s .now) (a .at) _ (omega (arith, c .before .before .before .before .before .before .before .pre)) (c .before .before .before .before .digit .ensures) (omega arith);
+        written = begun.one-digit (a .s .now) (a .at) _ (omega (arith, room)) (c .before .before .before .before .digit .ensures) (omega arith);
         ends = begun.ends-at (a .s .now) (a .at + 1) _ (c .before .digit2 .ensures) (c .if2 .taken);
         small = omega arith;
       },
@@ -53,7 +54,10 @@ returns-2 c =
 returns-3 : tie.Need-returns-3 Inv-loop μ-loop
 returns-3 c =
     let a = c .before .before .before .before .before .before .before .before .args in
-    λ n rest h. begun.zero-first (a .s .now) (a .at) (a .at + 1) _ _ (begun.one-digit (a .s .now) (a .at) _ (omega (arith, c .before .before .before .before .before .before .before .before .pre)) (c .before .before .before .before .before .digit .ensures) (omega arith)) (omega (arith, c .before .before .before .before .before .before .before .before .pre)) (omega arith) (c .before .before .digit2 .ensures) (omega arith) n rest h
+    let room = c .before .before .before .before .before .before .before .before .pre in
+    let first = begun.one-digit (a .s .now) (a .at) _ (omega (arith, room)) (c .before .before .before .before .before .digit .ensures) (omega arith) in
+    let second = c .before .before .digit2 .ensures in
+    begun.zero-first (a .s .now) (a .at) (a .at + 1) _ _ first (omega (arith, room)) (omega arith) second (omega arith)
 
 mul-v : tie.Need-mul-v Inv-loop μ-loop
 mul-v c = search needs
@@ -64,7 +68,10 @@ add-v c = search needs
 loop-holds : tie.Need-loop-holds Inv-loop μ-loop
 loop-holds c =
     let a = c .before .before .before .before .before .before .before .before .args in
-    (omega arith, begun.begins-two (a .s .now) (a .at) _ _ (omega (arith, c .before .before .before .before .before .before .before .before .pre)) (c .before .before .before .before .before .digit .ensures) (omega arith) (omega arith) (c .before .before .digit2 .ensures) (omega arith))
+    let room = c .before .before .before .before .before .before .before .before .pre in
+    let first = c .before .before .before .before .before .digit .ensures in
+    let second = c .before .before .digit2 .ensures in
+    (omega arith, begun.begins-two (a .s .now) (a .at) _ _ (omega (arith, room)) first (omega arith) (omega arith) second (omega arith))
 
 add-digit-2 : tie.Need-add-digit-2 Inv-loop μ-loop
 add-digit-2 c = search needs
@@ -106,14 +113,16 @@ loop-again : tie.Need-loop-again Inv-loop μ-loop
 loop-again c =
     let a = c .before .before .before .before .before .before .before .before .before .before .before .before .before .args in
     let l = c .before .before .before .before .loop in
-    (omega arith, begun.begins-more (a .s .now) (a .at) (l .k) (l .v) _ (l .inv .1) (omega (arith, c .before .before .before .before .before .before .before .before .before .before .before .before .before .pre)) (c .before .digit3 .ensures) (omega arith))
+    let room = c .before .before .before .before .before .before .before .before .before .before .before .before .before .pre in
+    (omega arith, begun.begins-more (a .s .now) (a .at) (l .k) (l .v) _ (l .inv .1) (omega (arith, room)) (c .before .digit3 .ensures) (omega arith))
 
 tenth-requires : tie.Need-tenth-requires Inv-loop μ-loop
 tenth-requires c κs =
     let a = c .before .before .before .before .before .before .before .before .before .before .args in
     let l = c .before .loop in
     let e : l .k ≡ 9 = omega (arith, l .inv .0, c .loop-test .left) in
-    (c .before .before .before .before .before .before .before .before .before .before .pre, subst (λ (k : ℕ). Begins (a .s .now) (a .at) k (l .v)) e (l .inv .1))
+    let room = c .before .before .before .before .before .before .before .before .before .before .pre in
+    (room, subst (λ (k : ℕ). Begins (a .s .now) (a .at) k (l .v)) e (l .inv .1))
 
 returns-5 : tie.Need-returns-5 Inv-loop μ-loop
 returns-5 c = search needs

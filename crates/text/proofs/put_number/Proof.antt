@@ -19,7 +19,7 @@ same-length : tie.Need-same-length
 same-length c = search needs
 
 returns : tie.Need-returns
-returns c = put-digit (c .before .before .args .out .now) (c .before .before .args .n) (c .if1 .taken) (c .before .before .pre)
+returns c = put-digit (omega arith) (c .before .before .pre) (omega arith) (omega arith)
 
 put-digits-requires : tie.Need-put-digits-requires
 put-digits-requires c κs = search needs

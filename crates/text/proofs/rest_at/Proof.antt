@@ -1,6 +1,6 @@
 -- `text::rest_at` meets its contract. The invariant: the first k bytes of p stand at `at`.
 -- Assumes nothing.
-use Prim.Native.Nat.{ℕ, _+_, _-_, _≤_}
+use Prim.Native.Nat.{ℕ, _+_, _-_, _≤_, _<_}
 use mathlib.Core.Path.{ap, _∙_}
 use mathlib.Core.List.{List, _++_}
 use native.Mathlib.Omega.{arith}
@@ -45,7 +45,8 @@ loop-again : tie.Need-loop-again Inv-loop μ-loop
 loop-again c =
     let a = c .before .before .before .before .before .args in
     let l = c .before .before .before .before .loop in
-    (omega arith, literal-turn (a .s .now) (a .at) (a .p .now) (l .k) (l .inv .1) (omega arith) (omega (arith, c .before .before .before .before .before .pre .0)) (c .if1 .left))
+    let inside : a .at + l .k < length (a .s .now) = omega (arith, c .before .before .before .before .before .pre .0) in
+    (omega arith, literal-turn (a .s .now) (a .at) (a .p .now) (l .k) (l .inv .1) (omega arith) inside (c .if1 .left))
 
 add-t12 : tie.Need-add-t12 Inv-loop μ-loop
 add-t12 c = omega (arith, c .before .before .pre .0)
@@ -54,7 +55,8 @@ returns-2 : tie.Need-returns-2 Inv-loop μ-loop
 returns-2 c =
     let a = c .before .before .args in
     let l = c .before .loop in
-    (omega (arith, c .before .before .pre .0), l .inv .1 ∙ ap (λ (u : List ℕ). u ++ drop (a .at + l .k) (a .s .now)) (take-all (l .k) (a .p .now) (c .loop-test .left)))
+    let whole = take-all (l .k) (a .p .now) (omega arith) in
+    (omega (arith, c .before .before .pre .0), l .inv .1 ∙ ap (λ (u : List ℕ). u ++ drop (a .at + l .k) (a .s .now)) whole)
 
 pub rest-at-spec : {M : Type 1} → statement M
 rest-at-spec =

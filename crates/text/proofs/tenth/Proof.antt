@@ -9,10 +9,14 @@ use Rattle.text.proofs.tenth.Statement.{statement}
 use Rattle.text.proofs.tenth.Tie as tie
 
 -- with its tenth digit
-ten : (c : tie.Else1) → Begins (c .before .before .before .before .args .s .now) (c .before .before .before .before .args .at) 10 (c .before .before .before .before .args .v * 10 + c .before .digit .result)
+abbrev start : tie.Else1 → tie.Start
+start c = c .before .before .before .before
+
+ten : (c : tie.Else1) → Begins (start c .args .s .now) (start c .args .at) 10 (start c .args .v * 10 + c .before .digit .result)
 ten c =
-    let a = c .before .before .before .before .args in
-    begun.begins-more (a .s .now) (a .at) 9 (a .v) (c .before .digit .result) (c .before .before .before .before .pre .1) (omega (arith, c .before .before .before .before .pre .0)) (c .before .digit .ensures) (omega arith)
+    let a = start c .args in
+    let d = c .before .digit in
+    begun.begins-more (a .s .now) (a .at) 9 (a .v) (d .result) (start c .pre .1) (omega (arith, start c .pre .0)) (d .ensures) (omega arith)
 
 add-digit : tie.Need-add-digit
 add-digit c = search needs
@@ -30,7 +34,8 @@ returns : tie.Need-returns
 returns c =
     let a = c .before .before .before .before .args in
     let b = c .before .before .before .before .pre .1 in
-    (omega (arith, c .before .before .before .before .pre .0), record { written = b .stands; ends = begun.ends-at (a .s .now) (a .at + 9) _ (c .before .digit .ensures) (c .if1 .taken); small = omega (arith, b .most) })
+    let ends = begun.ends-at (a .s .now) (a .at + 9) _ (c .before .digit .ensures) (c .if1 .taken) in
+    (omega (arith, c .before .before .before .before .pre .0), record { written = b .stands; ends = ends; small = omega (arith, b .most) })
 
 mul-w : tie.Need-mul-w
 mul-w c = search needs
@@ -56,8 +61,9 @@ digit-requires-2 c κs = search needs
 
 returns-3 : tie.Need-returns-3
 returns-3 c =
-    let a = c .before .before .before .before .before .before .before .before .args in
-    λ n rest h. begun.eleven (a .s .now) (a .at) _ _ (ten (c .before .before .before .before)) (omega (arith, c .before .before .before .before .before .before .before .before .pre .0)) (c .before .digit2 .ensures) (omega arith) n rest h
+    let d = c .before .before .before .before in
+    let a = start d .args in
+    begun.eleven (a .s .now) (a .at) _ _ (ten d) (omega (arith, start d .pre .0)) (c .before .digit2 .ensures) (omega arith)
 
 cast-t14 : tie.Need-cast-t14
 cast-t14 c = search needs
@@ -67,10 +73,10 @@ add-t6 c = search needs
 
 returns-4 : tie.Need-returns-4
 returns-4 c =
-    let a = c .before .before .before .before .before .before .before .before .args in (
-      omega (arith, c .before .before .before .before .before .before .before .before .pre .0),
-      record { written = ten (c .before .before .before .before) .stands; ends = begun.ends-at (a .s .now) (a .at + 10) _ (c .before .digit2 .ensures) (omega arith); small = omega arith },
-    )
+    let d = c .before .before .before .before in
+    let a = start d .args in
+    let ends = begun.ends-at (a .s .now) (a .at + 10) _ (c .before .digit2 .ensures) (omega arith) in
+    (omega (arith, start d .pre .0), record { written = ten d .stands; ends = ends; small = omega arith })
 
 pub tenth-spec : {M : Type 1} → statement M
 tenth-spec =
