@@ -15,16 +15,16 @@ use Rattle.model.specs.Trace.{rackLine, codeText, wordText, changeLine, LineCha
 use Rattle.model.proofs.Tests.{eq?, eqb-no}
 use Rattle.text.specs.Number.{isDigit, NoDigit, NumberThen}
 use Rattle.text.proofs.Decimals.{same-number, same-rest}
-use Rattle.lines.specs.Pieces.{IsCode, endsText, FitEnds, drawsText, Fit, FitWords}
+use Rattle.lines.specs.Pieces.{IsCode, endsText, FitEnds, wordsText, Fit, FitWords}
 
 -- a space and a closing bracket are no digits: what they begin goes on no number
-pub space-ends : isDigit 32 ≡ false
+pub space-no-digit : isDigit 32 ≡ false
 unfolding isDigit
-space-ends = refl
+space-no-digit = refl
 
-pub close-ends : isDigit 41 ≡ false
+pub close-no-digit : isDigit 41 ≡ false
 unfolding isDigit
-close-ends = refl
+close-no-digit = refl
 
 -- Line 1. Where its pieces stand one after the other the line stands; and where a line stands, what its reader has left after each piece
 -- (rack-1, rack-2, rack-3) starts with the next one. The same goes for the pieces of a change's line.
@@ -39,7 +39,7 @@ rack-1 n r e = e ∙ simp append-assoc
 
 pub rack-2 : {t t₁ : List ℕ} (n : ℕ) (r : List ℕ) → Fit n → t ≡ rackLine n ++ r → t ≡ bytes "(rack (boards " ++ t₁ → NumberThen t₁ n (bytes "))\n" ++ r)
 rack-2 {t₁ = t₁} n r s e l =
-    record { written = append-cancel-left (bytes "(rack (boards ") t₁ (decimal n ++ (bytes "))\n" ++ r)) (sym l ∙ rack-1 n r e); ends = close-ends; small = s }
+    record { written = append-cancel-left (bytes "(rack (boards ") t₁ (decimal n ++ (bytes "))\n" ++ r)) (sym l ∙ rack-1 n r e); ends = close-no-digit; small = s }
 
 pub rack-3 : {t t₁ t₂ : List ℕ} {m : ℕ} (n : ℕ) (r : List ℕ) → Fit n → t ≡ rackLine n ++ r → t ≡ bytes "(rack (boards " ++ t₁ → NumberThen t₁ m t₂
     → t₂ ≡ bytes "))\n" ++ r
@@ -62,7 +62,7 @@ ends-found {a = a} {b = b} h l k m =
 
 pub ends-1 : {t : List ℕ} (x : Ends) (r : List ℕ) → FitEnds x → t ≡ endsText x ++ r → NumberThen t (x .a) (bytes " " ++ (decimal (x .b) ++ (bytes ") (draws" ++ r)))
 unfolding endsText
-ends-1 x r s e = record { written = e ∙ simp append-assoc; ends = space-ends; small = s .0 }
+ends-1 x r s e = record { written = e ∙ simp append-assoc; ends = space-no-digit; small = s .0 }
 
 pub ends-2 : {t t₁ : List ℕ} {a : ℕ} (x : Ends) (r : List ℕ) → FitEnds x → t ≡ endsText x ++ r → NumberThen t a t₁
     → t₁ ≡ bytes " " ++ (decimal (x .b) ++ (bytes ") (draws" ++ r))
@@ -70,7 +70,7 @@ ends-2 x r s e h = same-rest h (ends-1 x r s e)
 
 pub ends-3 : {t t₁ t₂ : List ℕ} {a : ℕ} (x : Ends) (r : List ℕ) → FitEnds x → t ≡ endsText x ++ r → NumberThen t a t₁ → t₁ ≡ bytes " " ++ t₂
     → NumberThen t₂ (x .b) (bytes ") (draws" ++ r)
-ends-3 {t₂ = t₂} x r s e h l = record { written = append-cancel-left (bytes " ") t₂ _ (sym l ∙ ends-2 x r s e h); ends = close-ends; small = s .1 }
+ends-3 {t₂ = t₂} x r s e h l = record { written = append-cancel-left (bytes " ") t₂ _ (sym l ∙ ends-2 x r s e h); ends = close-no-digit; small = s .1 }
 
 pub ends-4 : {t t₁ t₂ t₃ : List ℕ} {a b : ℕ} (x : Ends) (r : List ℕ) → FitEnds x → t ≡ endsText x ++ r → NumberThen t a t₁ → t₁ ≡ bytes " " ++ t₂
     → NumberThen t₂ b t₃ → t₃ ≡ bytes ") (draws" ++ r
@@ -123,38 +123,38 @@ code-same k l r u (inr p) (inr q) e = (p ∙ sym q, append-cancel-left (codeText
 tail : {x y : ℕ} {p q : List ℕ} → x ∷ p ≡ y ∷ q → p ≡ q
 tail f = cc
 
-draws-ends : (v rest : List ℕ) → NoDigit (drawsText v ++ rest)
-unfolding texts wordText drawsText
-draws-ends [] rest = close-ends
-draws-ends (x ∷ xs) rest = space-ends
+words-no-digit : (v rest : List ℕ) → NoDigit (wordsText v ++ rest)
+unfolding texts wordText wordsText
+words-no-digit [] rest = close-no-digit
+words-no-digit (x ∷ xs) rest = space-no-digit
 
-draws-cons : (w : ℕ) (v rest : List ℕ) → drawsText (w ∷ v) ++ rest ≡ 32 ∷ (decimal w ++ (drawsText v ++ rest))
-unfolding texts wordText drawsText
-draws-cons w v rest = simp append-assoc
+words-cons : (w : ℕ) (v rest : List ℕ) → wordsText (w ∷ v) ++ rest ≡ 32 ∷ (decimal w ++ (wordsText v ++ rest))
+unfolding texts wordText wordsText
+words-cons w v rest = simp append-assoc
 
 -- where a space stands, a word stands after it
-pub draws-word : (v rest t : List ℕ) → All Fit v → 32 ∷ t ≡ drawsText v ++ rest → (w : ℕ) × (v′ : List ℕ) × (v ≡ w ∷ v′) × NumberThen t w (drawsText v′ ++ rest)
-unfolding texts wordText drawsText
-draws-word [] rest t s e = let z : _≡_ {A = ℕ} 32 41 = cc in absurd (omega arith)
-draws-word (w ∷ v) rest t s e =
-    (w, v, refl, record { written = tail (e ∙ draws-cons w v rest); ends = draws-ends v rest; small = s .0 })
+pub words-word : (v rest t : List ℕ) → All Fit v → 32 ∷ t ≡ wordsText v ++ rest → (w : ℕ) × (v′ : List ℕ) × (v ≡ w ∷ v′) × NumberThen t w (wordsText v′ ++ rest)
+unfolding texts wordText wordsText
+words-word [] rest t s e = let z : _≡_ {A = ℕ} 32 41 = cc in absurd (omega arith)
+words-word (w ∷ v) rest t s e =
+    (w, v, refl, record { written = tail (e ∙ words-cons w v rest); ends = words-no-digit v rest; small = s .0 })
 
 -- where none stands, the words are at their end
-pub draws-end : (v rest t : List ℕ) → (getD t 0 0 ≡ 32 → ⊥) → t ≡ drawsText v ++ rest → t ≡ bytes "))\n" ++ rest
-unfolding texts wordText drawsText
-draws-end [] rest t h e = e
-draws-end (w ∷ v) rest t h e = absurd (h (ap (λ (l : List ℕ). getD l 0 0) e))
+pub words-end : (v rest t : List ℕ) → (getD t 0 0 ≡ 32 → ⊥) → t ≡ wordsText v ++ rest → t ≡ bytes "))\n" ++ rest
+unfolding texts wordText wordsText
+words-end [] rest t h e = e
+words-end (w ∷ v) rest t h e = absurd (h (ap (λ (l : List ℕ). getD l 0 0) e))
 
 -- two lists of words with the same text are the same, and so is what follows
-pub draws-same : (v w r u : List ℕ) → All Fit v → All Fit w → drawsText v ++ r ≡ drawsText w ++ u → (v ≡ w) × (r ≡ u)
-unfolding texts wordText drawsText
-draws-same [] [] r u s z e = (refl, append-cancel-left (bytes "))\n") r u e)
-draws-same [] (y ∷ w) r u s z e = let q : _≡_ {A = ℕ} 41 32 = cc in absurd (omega arith)
-draws-same (x ∷ v) [] r u s z e = let q : _≡_ {A = ℕ} 32 41 = cc in absurd (omega arith)
-draws-same (x ∷ v) (y ∷ w) r u s z e =
-    let h : NumberThen (decimal x ++ (drawsText v ++ r)) x (drawsText v ++ r) = record { written = refl; ends = draws-ends v r; small = s .0 } in
-    let k : NumberThen (decimal x ++ (drawsText v ++ r)) y (drawsText w ++ u) = record { written = tail (sym (draws-cons x v r) ∙ e ∙ draws-cons y w u); ends = draws-ends w u; small = z .0 } in
-    let (p, q) = draws-same v w r u (s .1) (z .1) (same-rest h k) in
+pub words-same : (v w r u : List ℕ) → All Fit v → All Fit w → wordsText v ++ r ≡ wordsText w ++ u → (v ≡ w) × (r ≡ u)
+unfolding texts wordText wordsText
+words-same [] [] r u s z e = (refl, append-cancel-left (bytes "))\n") r u e)
+words-same [] (y ∷ w) r u s z e = let q : _≡_ {A = ℕ} 41 32 = cc in absurd (omega arith)
+words-same (x ∷ v) [] r u s z e = let q : _≡_ {A = ℕ} 32 41 = cc in absurd (omega arith)
+words-same (x ∷ v) (y ∷ w) r u s z e =
+    let h : NumberThen (decimal x ++ (wordsText v ++ r)) x (wordsText v ++ r) = record { written = refl; ends = words-no-digit v r; small = s .0 } in
+    let k : NumberThen (decimal x ++ (wordsText v ++ r)) y (wordsText w ++ u) = record { written = tail (sym (words-cons x v r) ∙ e ∙ words-cons y w u); ends = words-no-digit w u; small = z .0 } in
+    let (p, q) = words-same v w r u (s .1) (z .1) (same-rest h k) in
     ((λ i. same-number h k i ∷ p i), q)
 
 -- The line of a change.
@@ -169,20 +169,20 @@ pub fit-words : {c : Change} → LineChange c → FitWords (c .words)
 fit-words l = (l .few, l .words-fit)
 
 -- the pieces make the line
-pub change-1 : {t : List ℕ} (c : Change) (r : List ℕ) → t ≡ changeLine c ++ r → t ≡ codeText (c .code) ++ (endsText (ends c) ++ (drawsText (c .words) ++ r))
-unfolding changeLine endsText drawsText
+pub change-1 : {t : List ℕ} (c : Change) (r : List ℕ) → t ≡ changeLine c ++ r → t ≡ codeText (c .code) ++ (endsText (ends c) ++ (wordsText (c .words) ++ r))
+unfolding changeLine endsText wordsText
 change-1 c r e = e ∙ simp append-assoc
 
 pub change-2 : {t t₁ : List ℕ} (c : Change) (r : List ℕ) (k : ℕ) → LineChange c → IsCode k → t ≡ changeLine c ++ r → t ≡ codeText k ++ t₁
-    → t₁ ≡ endsText (ends c) ++ (drawsText (c .words) ++ r)
+    → t₁ ≡ endsText (ends c) ++ (wordsText (c .words) ++ r)
 change-2 c r k g i e h = code-same k (c .code) _ _ i (g .codes) (sym h ∙ change-1 c r e) .1
 
 pub change-3 : {t t₁ t₂ : List ℕ} (c : Change) (r : List ℕ) (k : ℕ) (b : Ends) → LineChange c → IsCode k → FitEnds b → t ≡ changeLine c ++ r
-    → t ≡ codeText k ++ t₁ → t₁ ≡ endsText b ++ t₂ → t₂ ≡ drawsText (c .words) ++ r
+    → t ≡ codeText k ++ t₁ → t₁ ≡ endsText b ++ t₂ → t₂ ≡ wordsText (c .words) ++ r
 change-3 c r k b g i z e h l = ends-same b (ends c) _ _ z (fit-ends g) (sym l ∙ change-2 c r k g i e h) .1
 
 pub change-found : {t t₁ t₂ : List ℕ} (c : Change) (t₃ : List ℕ) → t ≡ codeText (c .code) ++ t₁ → t₁ ≡ endsText (ends c) ++ t₂
-    → t₂ ≡ drawsText (c .words) ++ t₃ → t ≡ changeLine c ++ t₃
+    → t₂ ≡ wordsText (c .words) ++ t₃ → t ≡ changeLine c ++ t₃
 change-found c t₃ h l m =
     h
     ∙ ap (λ (u : List ℕ). codeText (c .code) ++ u) (l ∙ ap (λ (u : List ℕ). endsText (ends c) ++ u) m)
@@ -193,5 +193,5 @@ pub change-same : (x y : Change) (r u : List ℕ) → LineChange x → LineChang
 change-same x y r u s z e =
     let k = code-same (x .code) (y .code) _ _ (s .codes) (z .codes) (sym (change-1 x r refl) ∙ change-1 y u e) in
     let b = ends-same (ends x) (ends y) _ _ (fit-ends s) (fit-ends z) (k .1) in
-    let w = draws-same (x .words) (y .words) r u (s .words-fit) (z .words-fit) (b .1) in
+    let w = words-same (x .words) (y .words) r u (s .words-fit) (z .words-fit) (b .1) in
     ((λ i. record { code = k .0 i; a = b .0 i .a; b = b .0 i .b; words = w .0 i }), w .1)

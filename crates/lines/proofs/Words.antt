@@ -17,21 +17,21 @@ use Rattle.text.specs.Reading.{Found, Absent}
 use Rattle.text.proofs.Decimals.{same-number, same-rest}
 use Rattle.text.proofs.Standing.{drop-more, front-of-drop}
 use Rattle.text.proofs.Texts.{texts-snoc, all-snoc, all-last}
-use Rattle.lines.specs.Pieces.{drawsText, Fit, FitWords}
-use Rattle.lines.specs.Contracts.{EndAt, WordsAt}
+use Rattle.lines.specs.Pieces.{wordsText, Fit, FitWords}
+use Rattle.lines.specs.Contracts.{LineEndAt, WordsAt}
 use Rattle.lines.specs.declared.WordsRead.{WordsRead}
 use Rattle.lines.specs.declared.WordsRead.the-variants.{Words, NoWords}
-use Rattle.lines.proofs.Laws.{draws-word, draws-end}
+use Rattle.lines.proofs.Laws.{words-word, words-end}
 
 -- the words `got` stand from `at` up to i, and every text of words that stands at `at` starts with them
-pub record Passed (s : List ℕ) (at : ℕ) (got : List ℕ) (i : ℕ) : Type 0 where
+pub record GotWords (s : List ℕ) (at : ℕ) (got : List ℕ) (i : ℕ) : Type 0 where
   pub small : All Fit got
   pub stands : drop at s ≡ texts wordText got ++ drop i s
-  pub forced : (ws rest : List ℕ) → FitWords ws → drop at s ≡ drawsText ws ++ rest → (v : List ℕ) × (ws ≡ got ++ v) × (drop i s ≡ drawsText v ++ rest)
+  pub forced : (ws rest : List ℕ) → FitWords ws → drop at s ≡ wordsText ws ++ rest → (v : List ℕ) × (ws ≡ got ++ v) × (drop i s ≡ wordsText v ++ rest)
 
-pub passed-start : (s : List ℕ) (at : ℕ) → Passed s at [] at
+pub got-start : (s : List ℕ) (at : ℕ) → GotWords s at [] at
 unfolding texts wordText
-passed-start s at = record { small = tt; stands = refl; forced = λ ws rest g e. (ws, refl, e) }
+got-start s at = record { small = tt; stands = refl; forced = λ ws rest g e. (ws, refl, e) }
 
 -- past the end stands no space
 pub past-end : (s : List ℕ) (i : ℕ) → length s ≤ i → getD s i 0 ≡ 32 → ⊥
@@ -43,10 +43,10 @@ past-end s i h e =
 at-space : (s : List ℕ) (i : ℕ) → getD s i 0 ≡ 32 → drop i s ≡ 32 ∷ drop (i + 1) s
 at-space s i b = elim (le? (length s) i) [ inl p ↦ absurd (past-end s i p b) | inr p ↦ drop-more s i p ∙ ap (λ (x : ℕ). x ∷ drop (i + 1) s) b ]
 
-pub passed-word : (s : List ℕ) (at : ℕ) (got : List ℕ) (i w next : ℕ) → Passed s at got i → getD s i 0 ≡ 32
-    → NumberThen (drop (i + 1) s) w (drop next s) → Passed s at (got ++ (w ∷ [])) next
+pub got-word : (s : List ℕ) (at : ℕ) (got : List ℕ) (i w next : ℕ) → GotWords s at got i → getD s i 0 ≡ 32
+    → NumberThen (drop (i + 1) s) w (drop next s) → GotWords s at (got ++ (w ∷ [])) next
 unfolding wordText
-passed-word s at got i w next p b k =
+got-word s at got i w next p b k =
     record {
       small = all-snoc Fit got w (p .small) (k .small);
       stands =
@@ -56,7 +56,7 @@ passed-word s at got i w next p b k =
           ∙ ap (λ (l : List ℕ). l ++ drop next s) (sym (texts-snoc wordText got w));
       forced = λ ws rest g e.
           let (v, q, f) = p .forced ws rest g e in
-          let (x, v′, r, n) = draws-word v rest (drop (i + 1) s) (all-last Fit got v (subst (All Fit) q (g .1))) (sym (at-space s i b) ∙ f) in (
+          let (x, v′, r, n) = words-word v rest (drop (i + 1) s) (all-last Fit got v (subst (All Fit) q (g .1))) (sym (at-space s i b) ∙ f) in (
             v′,
             q ∙ ap (λ (l : List ℕ). got ++ l) (r ∙ ap (λ (y : ℕ). y ∷ v′) (sym (same-number k n))) ∙ sym (append-assoc got (w ∷ []) v′),
             same-rest k n,
@@ -64,29 +64,29 @@ passed-word s at got i w next p b k =
     }
 
 -- a space with no number after it
-pub passed-refused : (s : List ℕ) (at : ℕ) (got : List ℕ) (i : ℕ) → Passed s at got i → getD s i 0 ≡ 32
-    → ((n : ℕ) (u : List ℕ) → NumberThen (drop (i + 1) s) n u → ⊥) → Absent drawsText FitWords s at
-passed-refused s at got i p b no-number ws rest g e =
+pub got-refused : (s : List ℕ) (at : ℕ) (got : List ℕ) (i : ℕ) → GotWords s at got i → getD s i 0 ≡ 32
+    → ((n : ℕ) (u : List ℕ) → NumberThen (drop (i + 1) s) n u → ⊥) → Absent wordsText FitWords s at
+got-refused s at got i p b no-number ws rest g e =
     let (v, q, f) = p .forced ws rest g e in
-    let (x, v′, r, n) = draws-word v rest (drop (i + 1) s) (all-last Fit got v (subst (All Fit) q (g .1))) (sym (at-space s i b) ∙ f) in
+    let (x, v′, r, n) = words-word v rest (drop (i + 1) s) (all-last Fit got v (subst (All Fit) q (g .1))) (sym (at-space s i b) ∙ f) in
     no-number x _ n
 
 -- a word too many
-pub passed-full : (s : List ℕ) (at : ℕ) (got : List ℕ) (i : ℕ) → Passed s at got i → length got ≡ 128 → getD s i 0 ≡ 32
-    → Absent drawsText FitWords s at
-passed-full s at got i p full b ws rest g e =
+pub got-full : (s : List ℕ) (at : ℕ) (got : List ℕ) (i : ℕ) → GotWords s at got i → length got ≡ 128 → getD s i 0 ≡ 32
+    → Absent wordsText FitWords s at
+got-full s at got i p full b ws rest g e =
     let (v, q, f) = p .forced ws rest g e in
-    let (x, v′, r, n) = draws-word v rest (drop (i + 1) s) (all-last Fit got v (subst (All Fit) q (g .1))) (sym (at-space s i b) ∙ f) in
+    let (x, v′, r, n) = words-word v rest (drop (i + 1) s) (all-last Fit got v (subst (All Fit) q (g .1))) (sym (at-space s i b) ∙ f) in
     omega (arith, g .0, simp length-append at (ap length (q ∙ ap (λ (l : List ℕ). got ++ l) r)))
 
 not-space : (s : List ℕ) (i : ℕ) → (getD s i 0 ≡ 32 → ⊥) → getD (drop i s) 0 0 ≡ 32 → ⊥
 not-space s i h e = h (sym (front-of-drop s i) ∙ e)
 
 -- the end
-pub passed-found : (s : List ℕ) (at : ℕ) (got : List ℕ) (i next : ℕ) → Passed s at got i → length got ≤ 128 → next ≤ length s
-    → drop i s ≡ bytes "))\n" ++ drop next s → Found drawsText FitWords s at got next
-unfolding drawsText
-passed-found s at got i next p few within l =
+pub got-found : (s : List ℕ) (at : ℕ) (got : List ℕ) (i next : ℕ) → GotWords s at got i → length got ≤ 128 → next ≤ length s
+    → drop i s ≡ bytes "))\n" ++ drop next s → Found wordsText FitWords s at got next
+unfolding wordsText
+got-found s at got i next p few within l =
     record {
       within = within;
       good = (few, p .small);
@@ -94,23 +94,23 @@ passed-found s at got i next p few within l =
     }
 
 -- neither a space nor the end
-pub passed-other : (s : List ℕ) (at : ℕ) (got : List ℕ) (i : ℕ) → Passed s at got i → (getD s i 0 ≡ 32 → ⊥)
-    → ((u : List ℕ) → drop i s ≡ bytes "))\n" ++ u → ⊥) → Absent drawsText FitWords s at
-passed-other s at got i p other no-end ws rest g e =
+pub got-other : (s : List ℕ) (at : ℕ) (got : List ℕ) (i : ℕ) → GotWords s at got i → (getD s i 0 ≡ 32 → ⊥)
+    → ((u : List ℕ) → drop i s ≡ bytes "))\n" ++ u → ⊥) → Absent wordsText FitWords s at
+got-other s at got i p other no-end ws rest g e =
     let (v, q, f) = p .forced ws rest g e in
-    no-end rest (draws-end v rest (drop i s) (not-space s i other) f)
+    no-end rest (words-end v rest (drop i s) (not-space s i other) f)
 
 -- the end was looked for where no word can stand, or none more
-pub passed-end : (s : List ℕ) (at : ℕ) (words : List ℕ) (i count : ℕ) (r : WordsRead) → Passed s at (take count words) i → count ≤ 128 → count ≤ length words
-    → (getD s i 0 ≡ 32 → count ≡ 128) → EndAt s i count r → WordsAt s at words r
-passed-end s at words i count (Words n next) p few room full (same, found) =
+pub got-end : (s : List ℕ) (at : ℕ) (words : List ℕ) (i count : ℕ) (r : WordsRead) → GotWords s at (take count words) i → count ≤ 128 → count ≤ length words
+    → (getD s i 0 ≡ 32 → count ≡ 128) → LineEndAt s i count r → WordsAt s at words r
+got-end s at words i count (Words n next) p few room full (same, found) =
     let l = length-take-le count words room in
-    subst (λ (k : ℕ). WordsAt s at words (Words k next)) (sym same) (few, passed-found s at (take count words) i next p (omega arith) (found .0) (found .1))
-passed-end s at words i count NoWords p few room full no-end =
+    subst (λ (k : ℕ). WordsAt s at words (Words k next)) (sym same) (few, got-found s at (take count words) i next p (omega arith) (found .0) (found .1))
+got-end s at words i count NoWords p few room full no-end =
     let l = length-take-le count words room in
     elim (eq? (getD s i 0) 32) [
-      | inl b ↦ let h = full b in passed-full s at (take count words) i p (omega arith) b
-      | inr b ↦ passed-other s at (take count words) i p b no-end
+      | inl b ↦ let h = full b in got-full s at (take count words) i p (omega arith) b
+      | inr b ↦ got-other s at (take count words) i p b no-end
     ]
 
 -- a word stored

@@ -11,13 +11,13 @@ use Rattle.text.specs.Literal.{LiteralAt}
 use Rattle.text.specs.Reading.{Found, Absent}
 use Rattle.text.specs.declared.Number.the-variants.{Value, NoNumber}
 use Rattle.text.specs.declared.Literal.the-variants.{Next, NoLiteral}
-use Rattle.lines.specs.Pieces.{IsCode, endsText, FitEnds, drawsText, Fit, FitWords}
+use Rattle.lines.specs.Pieces.{IsCode, endsText, FitEnds, wordsText, Fit, FitWords}
 use Rattle.lines.specs.declared.RackRead.{RackRead}
 use Rattle.lines.specs.declared.RackRead.the-variants.{Rack, NoRack}
 use Rattle.lines.specs.declared.CodeRead.{CodeRead}
 use Rattle.lines.specs.declared.CodeRead.the-variants.{Code, NoCode}
 use Rattle.lines.specs.declared.EndsRead.{EndsRead}
-use Rattle.lines.specs.declared.EndsRead.the-variants.{Pair, NoPair}
+use Rattle.lines.specs.declared.EndsRead.the-variants.{Ends, NoEnds}
 use Rattle.lines.specs.declared.WordRead.{WordRead}
 use Rattle.lines.specs.declared.WordRead.the-variants.{Word, NoSpace, NoWord}
 use Rattle.lines.specs.declared.WordsRead.{WordsRead}
@@ -35,8 +35,8 @@ CodeAt s at (Code code next) = Found codeText IsCode s at code next
 CodeAt s at NoCode = Absent codeText IsCode s at
 
 abbrev pub EndsAt : List ℕ → ℕ → EndsRead → Type 0
-EndsAt s at (Pair a b next) = Found endsText FitEnds s at (record { a = a; b = b }) next
-EndsAt s at NoPair = Absent endsText FitEnds s at
+EndsAt s at (Ends a b next) = Found endsText FitEnds s at (record { a = a; b = b }) next
+EndsAt s at NoEnds = Absent endsText FitEnds s at
 
 -- the word after the space at `at`; or that no space stands there, or one that no number follows
 abbrev pub WordAt : List ℕ → ℕ → WordRead → Type 0
@@ -45,19 +45,19 @@ WordAt s at NoSpace = getD s at 0 ≡ 32 → ⊥
 WordAt s at NoWord = (getD s at 0 ≡ 32) × NumberAt s (at + 1) NoNumber
 
 -- the line's end after count words
-abbrev pub EndAt : List ℕ → ℕ → ℕ → WordsRead → Type 0
-EndAt s at count (Words n next) = (n ≡ count) × LiteralAt s at (bytes "))\n") (Next next)
-EndAt s at count NoWords = LiteralAt s at (bytes "))\n") NoLiteral
+abbrev pub LineEndAt : List ℕ → ℕ → ℕ → WordsRead → Type 0
+LineEndAt s at count (Words k next) = (k ≡ count) × LiteralAt s at (bytes "))\n") (Next next)
+LineEndAt s at count NoWords = LiteralAt s at (bytes "))\n") NoLiteral
 
 -- the words stand in the first count places of `words`
 abbrev pub WordsAt : List ℕ → ℕ → List ℕ → WordsRead → Type 0
-WordsAt s at words (Words count next) = (count ≤ 128) × Found drawsText FitWords s at (take count words) next
-WordsAt s at words NoWords = Absent drawsText FitWords s at
+WordsAt s at words (Words count next) = (count ≤ 128) × Found wordsText FitWords s at (take count words) next
+WordsAt s at words NoWords = Absent wordsText FitWords s at
 
 -- the change whose line was read
-abbrev pub read : ℕ → ℕ → ℕ → ℕ → List ℕ → Change
-read code a b count words = record { code = code; a = a; b = b; words = take count words }
+abbrev pub changeOf : ℕ → ℕ → ℕ → ℕ → List ℕ → Change
+changeOf code a b count words = record { code = code; a = a; b = b; words = take count words }
 
 abbrev pub ChangeAt : List ℕ → ℕ → List ℕ → ChangeRead → Type 0
-ChangeAt s at words (Line code a b count next) = (count ≤ 128) × Found changeLine LineChange s at (read code a b count words) next
+ChangeAt s at words (Line code a b count next) = (count ≤ 128) × Found changeLine LineChange s at (changeOf code a b count words) next
 ChangeAt s at words NoLine = Absent changeLine LineChange s at

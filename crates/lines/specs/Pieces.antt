@@ -23,8 +23,8 @@ abbrev pub FitEnds : Ends → Type 0
 FitEnds e = (e .a ≤ largest) × (e .b ≤ largest)
 
 -- the words, `))` and a line feed
-unfoldable pub drawsText : List ℕ → List ℕ
-drawsText ws = texts wordText ws ++ bytes "))\n"
+unfoldable pub wordsText : List ℕ → List ℕ
+wordsText ws = texts wordText ws ++ bytes "))\n"
 
 abbrev pub Fit : ℕ → Type 0
 Fit x = x ≤ largest

@@ -4,42 +4,48 @@ use text::Literal;
 use text::Number;
 ghost use Prim.Native.Nat.{_+_, _≤_};
 ghost use lib.ListN.{length};
-ghost use Rattle.lines.specs.Contracts.{RackAt, CodeAt, EndsAt, WordAt, EndAt, WordsAt, ChangeAt};
+ghost use Rattle.lines.specs.Contracts.{RackAt, CodeAt, EndsAt, WordAt, LineEndAt, WordsAt, ChangeAt};
 
 // The number of vertices, and the position after the line.
 pub enum RackRead {
-    Rack(u32, usize),
+    Rack { n: u32, next: usize },
     NoRack,
 }
 
 // The code that a change's line begins with, and the position after it.
 pub enum CodeRead {
-    Code(u32, usize),
+    Code { code: u32, next: usize },
     NoCode,
 }
 
 // The two vertices, and the position after them.
 pub enum EndsRead {
-    Pair(u32, u32, usize),
-    NoPair,
+    Ends { a: u32, b: u32, next: usize },
+    NoEnds,
 }
 
 // The word after a space, and the position after it; or that no space stands there, or one with no number after it.
 pub enum WordRead {
-    Word(u32, usize),
+    Word { w: u32, next: usize },
     NoSpace,
     NoWord,
 }
 
 // How many words, and the position after them.
 pub enum WordsRead {
-    Words(usize, usize),
+    Words { count: usize, next: usize },
     NoWords,
 }
 
 // The code, the two vertices, how many words, and the position after the line.
 pub enum ChangeRead {
-    Line(u32, u32, u32, usize, usize),
+    Line {
+        code: u32,
+        a: u32,
+        b: u32,
+        count: usize,
+        next: usize,
+    },
     NoLine,
 }
 
@@ -56,7 +62,7 @@ pub fn rack_at(text: &[u8], at: usize) -> RackRead
     let Literal::Next(next) = text::literal_at(text, j, b"))\n") else {
         return RackRead::NoRack;
     };
-    RackRead::Rack(n, next)
+    RackRead::Rack { n, next }
 }
 
 // Reads `(add (` as code 1, or `(drop (` as code 2.
@@ -64,9 +70,9 @@ fn code_at(text: &[u8], at: usize) -> CodeRead
     ensures { λ r. ⌜ CodeAt (now (text .entry)) at r ⌝ }
 {
     match text::literal_at(text, at, b"(add (") {
-        Literal::Next(next) => CodeRead::Code(1, next),
+        Literal::Next(next) => CodeRead::Code { code: 1, next },
         Literal::NoLiteral => match text::literal_at(text, at, b"(drop (") {
-            Literal::Next(next) => CodeRead::Code(2, next),
+            Literal::Next(next) => CodeRead::Code { code: 2, next },
             Literal::NoLiteral => CodeRead::NoCode,
         },
     }
@@ -77,18 +83,18 @@ fn ends_at(text: &[u8], at: usize) -> EndsRead
     ensures { λ r. ⌜ EndsAt (now (text .entry)) at r ⌝ }
 {
     let Number::Value(a, i) = text::number_at(text, at) else {
-        return EndsRead::NoPair;
+        return EndsRead::NoEnds;
     };
     let Literal::Next(j) = text::literal_at(text, i, b" ") else {
-        return EndsRead::NoPair;
+        return EndsRead::NoEnds;
     };
     let Number::Value(b, k) = text::number_at(text, j) else {
-        return EndsRead::NoPair;
+        return EndsRead::NoEnds;
     };
     let Literal::Next(next) = text::literal_at(text, k, b") (draws") else {
-        return EndsRead::NoPair;
+        return EndsRead::NoEnds;
     };
-    EndsRead::Pair(a, b, next)
+    EndsRead::Ends { a, b, next }
 }
 
 // Reads a space and a word where twelve bytes or more are left.
@@ -102,7 +108,7 @@ fn word_within(text: &[u8], at: usize) -> WordRead
     let Number::Value(w, next) = text::number_within(text, at + 1) else {
         return WordRead::NoWord;
     };
-    WordRead::Word(w, next)
+    WordRead::Word { w, next }
 }
 
 // The same at any position.
@@ -118,7 +124,7 @@ fn word_near_end(text: &[u8], at: usize) -> WordRead
     let Number::Value(w, next) = text::number_at(text, at + 1) else {
         return WordRead::NoWord;
     };
-    WordRead::Word(w, next)
+    WordRead::Word { w, next }
 }
 
 // The quicker of the two where it may be used: only the last word or two of a text are near its end.
@@ -144,30 +150,30 @@ fn words_at(text: &[u8], at: usize, words: &mut [u32]) -> WordsRead
     while count < 128 {
         let word = word_at(text, i);
         match word {
-            WordRead::Word(w, next) => {
+            WordRead::Word { w, next } => {
                 words[count] = w;
                 count += 1;
                 i = next;
             }
             WordRead::NoSpace => {
-                return end_at(text, i, count);
+                return line_end_at(text, i, count);
             }
             WordRead::NoWord => {
                 return WordsRead::NoWords;
             }
         }
     }
-    end_at(text, i, count)
+    line_end_at(text, i, count)
 }
 
 // Reads the end of the line after so many words.
-fn end_at(text: &[u8], at: usize, count: usize) -> WordsRead
-    ensures { λ r. ⌜ EndAt (now (text .entry)) at count r ⌝ }
+fn line_end_at(text: &[u8], at: usize, count: usize) -> WordsRead
+    ensures { λ r. ⌜ LineEndAt (now (text .entry)) at count r ⌝ }
 {
     let Literal::Next(next) = text::literal_at(text, at, b"))\n") else {
         return WordsRead::NoWords;
     };
-    WordsRead::Words(count, next)
+    WordsRead::Words { count, next }
 }
 
 // "Each further line is `(add (A B) (draws W W))` or the same with `drop`": its words go to the first places of `words`.
@@ -175,14 +181,20 @@ pub fn change_at(text: &[u8], at: usize, words: &mut [u32]) -> ChangeRead
     requires { ⌜ 128 ≤ length (now words) ⌝ }
     ensures { λ r. ⌜ ChangeAt (now (text .entry)) at (now (words .exit)) r ⌝ }
 {
-    let CodeRead::Code(code, i) = code_at(text, at) else {
+    let CodeRead::Code { code, next: i } = code_at(text, at) else {
         return ChangeRead::NoLine;
     };
-    let EndsRead::Pair(a, b, j) = ends_at(text, i) else {
+    let EndsRead::Ends { a, b, next: j } = ends_at(text, i) else {
         return ChangeRead::NoLine;
     };
-    let WordsRead::Words(count, next) = words_at(text, j, words) else {
+    let WordsRead::Words { count, next } = words_at(text, j, words) else {
         return ChangeRead::NoLine;
     };
-    ChangeRead::Line(code, a, b, count, next)
+    ChangeRead::Line {
+        code,
+        a,
+        b,
+        count,
+        next,
+    }
 }

@@ -1,6 +1,7 @@
 -- A reader where it lies, and behind a `&mut`, for the walks of the functions that hold one.
 --     Cell, Own, Lies  a reader's cell, what it owns, and the two as memory has them.        Mut      the reference to it
 --     lies-out, lies-in    the cell and what the reader owns, from memory and back
+--     val, OwnText     the machine value of a slice, and what a text owns
 --     text-out         what a reader owns  ⊢  what its text owns, as a callee asks for a slice, and the whole again: a reader of a `&` is Copy
 --     opens-up         the reference and its token give the cell, what the reader owns, and `Open`, which is what shuts the borrow again
 --     shuts            from those, at the reader moved on to m, the reference and its token
@@ -27,7 +28,7 @@ use denote.Laws.{Is, shows}
 use denote.Memory.{mem, cellAt, partOf}
 use denote.Plain.{uint-makes}
 use denote.Builtin.{u8, usize}
-use denote.Ref.{NamedLft, MutRef}
+use denote.Ref.{RefT, NamedLft, MutRef}
 use denote.Slice.{sliceVal, ShrSlice}
 use denote.Steps.{owned, peeks}
 use denote.Struct.Declared.{Declared}
@@ -65,12 +66,12 @@ Lies κ b o h = mem (Behind κ) .lies h b o
 abbrev pub Mut : Lft → Lft → ℕ → ℕ → GName → Reader → Fml
 Mut κ κ′ b o γ h = MutRef (named 0) κ (Behind κ′) .own (record { ptr = (b, o); name = γ; now = h }) (vptr b o ∷ [])
 
--- the text, with its machine value
-abbrev pub textVal : Reader → Val
-textVal h = sliceVal (h .text .ptr) (length (h .text .now))
+-- the machine value of a slice as it is passed, and what a text owns
+abbrev pub val : RefT (List ℕ) → Val
+val x = sliceVal (x .ptr) (length (x .now))
 
-abbrev pub OwnText : Lft → Reader → Fml
-OwnText κ h = ShrSlice (named 0) κ u8 .own (h .text) (textVal h ∷ [])
+abbrev pub OwnText : Lft → RefT (List ℕ) → Fml
+OwnText κ s = ShrSlice (named 0) κ u8 .own s (val s ∷ [])
 
 -- the reader moved on to m
 abbrev pub on : Reader → ℕ → Reader
@@ -86,7 +87,7 @@ module _ {M : Type 1} (𝓤 : URA M) (H : Heap 𝓤) (A : Atoms 𝓤) (W : Given
   abbrev vd : Values (D κ .parts)
   vd = (h .text, (h .at, tt))
 
-  pub text-out : ent 𝓤 (sem 𝓤 H A (Own κ h)) (sep 𝓤 (sem 𝓤 H A (OwnText κ h)) (sem 𝓤 H A (Own κ h)))
+  pub text-out : ent 𝓤 (sem 𝓤 H A (Own κ h)) (sep 𝓤 (sem 𝓤 H A (OwnText κ (h .text))) (sem 𝓤 H A (Own κ h)))
   text-out =
       qed W (‵ (Own κ h) ∷ []) ∵ use1 W (‵ (Own κ h) ⊛ ‵ (Own κ h)) (LL.copy (D κ) (T′.the-copy (α κ)) 𝓤 H A W .twice h (T′.lowered h ∷ [])) $ split ! $
       use1 W (given (T′.lowered h ∷ [] ≡ T′.lowered h ∷ []) (‵ (all-own (D κ .parts) (L κ) vd))) (own-open 𝓤 H A W (D κ) (L κ) vd (T′.lowered h)) $

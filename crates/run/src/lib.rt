@@ -168,8 +168,8 @@ pub fn run(rack: &mut [u8], text: &[u8], space: &mut [u8]) -> RunAnswer
     let mut heads = trace::heads_space();
     let mut words = trace::words_space();
     match trace::read(text, &mut heads, &mut words) {
-        Checked::Bad(line) => turned_back(4, line),
-        Checked::Fits(n, changes) => taken(rack, n, &heads, &words, changes, space),
+        Checked::Bad { line } => turned_back(4, line),
+        Checked::Fits { n, changes } => taken(rack, n, &heads, &words, changes, space),
     }
 }
 

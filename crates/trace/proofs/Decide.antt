@@ -103,25 +103,25 @@ change? l = elim (coded? l 1) [
 
 -- A text.
 
-abbrev same : List ℕ → List ℕ
-same l = l
+abbrev itself : List ℕ → List ℕ
+itself l = l
 
-on-first : (b : ℕ) (ls : List (List ℕ)) → texts same (onFirst b ls) ≡ b ∷ texts same ls
+on-first : (b : ℕ) (ls : List (List ℕ)) → texts itself (onFirst b ls) ≡ b ∷ texts itself ls
 unfolding onFirst texts
 on-first b [] = refl
 on-first b (l ∷ ls) = refl
 
 -- its lines, one after the other, are the text
-joined : (t : List ℕ) → texts same (linesOf t) ≡ t
+joined : (t : List ℕ) → texts itself (linesOf t) ≡ t
 unfolding texts
 joined [] = unfold linesOf in refl
 joined (b ∷ t) = elim (eq? b 10) [
-  | inl e ↦ ap (λ (x : ℕ). texts same (linesOf (x ∷ t))) e ∙ ap (texts same) (lines-feed t) ∙ ap (λ (u : List ℕ). 10 ∷ u) (joined t) ∙ ap (λ (x : ℕ). x ∷ t) (sym e)
-  | inr h ↦ ap (texts same) (lines-other b t h) ∙ on-first b (linesOf t) ∙ ap (λ (u : List ℕ). b ∷ u) (joined t)
+  | inl e ↦ ap (λ (x : ℕ). texts itself (linesOf (x ∷ t))) e ∙ ap (texts itself) (lines-feed t) ∙ ap (λ (u : List ℕ). 10 ∷ u) (joined t) ∙ ap (λ (x : ℕ). x ∷ t) (sym e)
+  | inr h ↦ ap (texts itself) (lines-other b t h) ∙ on-first b (linesOf t) ∙ ap (λ (u : List ℕ). b ∷ u) (joined t)
 ]
 
 -- further lines all hold changes, or one is the first that doesn't
-changes? : (ls : List (List ℕ)) → ((cs : List Change) × All LineChange cs × (texts same ls ≡ texts changeLine cs)) ⊎ ((k : ℕ) × FirstBadChange ls k)
+changes? : (ls : List (List ℕ)) → ((cs : List Change) × All LineChange cs × (texts itself ls ≡ texts changeLine cs)) ⊎ ((k : ℕ) × FirstBadChange ls k)
 unfolding texts FirstBadChange
 changes? [] = inl ([], tt, refl)
 changes? (l ∷ ls) = elim (change? l) [
@@ -136,7 +136,7 @@ changes? (l ∷ ls) = elim (change? l) [
 pub fits-or-bad : (text : List ℕ) → ((t : Trace) × Holds text t) ⊎ ((k : ℕ) × FirstBad (linesOf text) k)
 fits-or-bad text = go (linesOf text) (joined text)
   where
-    go : (ls : List (List ℕ)) → texts same ls ≡ text → ((t : Trace) × Holds text t) ⊎ ((k : ℕ) × FirstBad ls k)
+    go : (ls : List (List ℕ)) → texts itself ls ≡ text → ((t : Trace) × Holds text t) ⊎ ((k : ℕ) × FirstBad ls k)
     go [] e = unfold FirstBad in inr (1, refl)
     go (l ∷ ls) e = unfold FirstBad texts traceText in elim (rack? l) [
       | inr h ↦ inr (1, h)

@@ -89,31 +89,31 @@ line-then rest o =
     ap (λ (l : List ℕ). linesOf (l ++ rest)) (o .whole) ∙ body-then (o .body) rest (o .clean) ∙ ap (λ (l : List ℕ). l ∷ linesOf rest) (sym (o .whole))
 
 -- a text starts with its first line
-abbrev Starts : List ℕ → List (List ℕ) → Type 0
-Starts t [] = t ≡ []
-Starts t (l ∷ ls) = (rest : List ℕ) × (t ≡ l ++ rest)
+abbrev FirstAt : List ℕ → List (List ℕ) → Type 0
+FirstAt t [] = t ≡ []
+FirstAt t (l ∷ ls) = (rest : List ℕ) × (t ≡ l ++ rest)
 
-starts-first : (b : ℕ) (t : List ℕ) (ls : List (List ℕ)) → Starts t ls → Starts (b ∷ t) (onFirst b ls)
+first-on : (b : ℕ) (t : List ℕ) (ls : List (List ℕ)) → FirstAt t ls → FirstAt (b ∷ t) (onFirst b ls)
 unfolding onFirst
-starts-first b t [] s = (t, refl)
-starts-first b t (l ∷ ls) s = (s .0, ap (λ (u : List ℕ). b ∷ u) (s .1))
+first-on b t [] s = (t, refl)
+first-on b t (l ∷ ls) s = (s .0, ap (λ (u : List ℕ). b ∷ u) (s .1))
 
-starts : (t : List ℕ) → Starts t (linesOf t)
-starts [] = unfold linesOf in refl
-starts (b ∷ t) =
-    let ih = starts t in
+first-at : (t : List ℕ) → FirstAt t (linesOf t)
+first-at [] = unfold linesOf in refl
+first-at (b ∷ t) =
+    let ih = first-at t in
     elim (eq? b 10) [
-      | inl e ↦ subst (Starts (b ∷ t)) (sym (ap (λ (x : ℕ). linesOf (x ∷ t)) e ∙ lines-feed t)) (t, ap (λ (x : ℕ). x ∷ t) e)
-      | inr h ↦ subst (Starts (b ∷ t)) (sym (lines-other b t h)) (starts-first b t (linesOf t) ih)
+      | inl e ↦ subst (FirstAt (b ∷ t)) (sym (ap (λ (x : ℕ). linesOf (x ∷ t)) e ∙ lines-feed t)) (t, ap (λ (x : ℕ). x ∷ t) e)
+      | inr h ↦ subst (FirstAt (b ∷ t)) (sym (lines-other b t h)) (first-on b t (linesOf t) ih)
     ]
 
 -- The first line that does not fit.
 
 -- no rack line stands at the start: line 1 does not fit, or there is none
 pub bad-rack : (s : List ℕ) → ((n : ℕ) (rest : List ℕ) → n ≤ largest → s ≡ rackLine n ++ rest → ⊥) → FirstBad (linesOf s) 1
-bad-rack s absent = go (linesOf s) (starts s)
+bad-rack s absent = go (linesOf s) (first-at s)
   where
-    go : (ls : List (List ℕ)) → Starts s ls → FirstBad ls 1
+    go : (ls : List (List ℕ)) → FirstAt s ls → FirstBad ls 1
     go [] h = unfold FirstBad in refl
     go (l ∷ ls) h = unfold FirstBad in (λ k. absent (k .0) (h .0) (k .1) (h .1 ∙ ap (λ (u : List ℕ). u ++ h .0) (k .2)))
 
@@ -123,9 +123,9 @@ NoChange t = (c : Change) (rest : List ℕ) → LineChange c → t ≡ changeLin
 
 -- after good changes, no change stands at the start of what is left, which is not empty
 bad-here : (t : List ℕ) → 0 < length t → NoChange t → FirstBadChange (linesOf t) 0
-bad-here t some absent = go (linesOf t) (starts t)
+bad-here t some absent = go (linesOf t) (first-at t)
   where
-    go : (ls : List (List ℕ)) → Starts t ls → FirstBadChange ls 0
+    go : (ls : List (List ℕ)) → FirstAt t ls → FirstBadChange ls 0
     go [] h = absurd (omega (arith, ap length h))
     go (l ∷ ls) h = unfold FirstBadChange in (λ k. absent (k .0) (h .0) (k .1) (h .1 ∙ ap (λ (u : List ℕ). u ++ h .0) (k .2)))
 

@@ -18,7 +18,7 @@ use Rattle.model.specs.Run.{longest}
 use Rattle.model.specs.Change.{Change}
 use Rattle.model.specs.Trace.{traceText, rackLine, changeLine, LineChange, linesOf, FirstBad}
 use Rattle.text.proofs.Texts.{all-snoc}
-use Rattle.lines.specs.Contracts.{RackAt, ChangeAt, read as readAs}
+use Rattle.lines.specs.Contracts.{RackAt, ChangeAt, changeOf}
 use Rattle.lines.specs.declared.RackRead.{RackRead}
 use Rattle.lines.specs.declared.RackRead.the-variants.{Rack, NoRack}
 use Rattle.lines.specs.declared.ChangeRead.{ChangeRead}
@@ -139,10 +139,10 @@ module _ (text heads₀ words₀ : List ℕ) where
     can-read = omega (arith, asked, v .words-long, good .within, good .far)
 
     -- the line, and the words after it; some text was left
-    abbrev pub Next : ChangeRead → List ℕ → Type 0
-    Next line after = ChangeInto text (s .at) (s .got .words) (s .words) after line × (length after ≡ length (s .words)) × (s .at < length text)
+    abbrev pub LineRead : ChangeRead → List ℕ → Type 0
+    LineRead line after = ChangeInto text (s .at) (s .got .words) (s .words) after line × (length after ≡ length (s .words)) × (s .at < length text)
 
-    pub can-keep : (line : ChangeRead) (after : List ℕ) → Next line after → CanKeep (s .heads) line (s .got)
+    pub can-keep : (line : ChangeRead) (after : List ℕ) → LineRead line after → CanKeep (s .heads) line (s .got)
     can-keep line after f = (
       omega (arith, asked, v .heads-long, good .within, good .far, f .2),
       omega (arith, asked, good .within, good .far),
@@ -152,12 +152,12 @@ module _ (text heads₀ words₀ : List ℕ) where
     abbrev then : ChangeRead → List ℕ → Progress → List ℕ → Stand
     then line after got heads = record { at = pastLine (s .at) line; got = got; heads = heads; words = after }
 
-    by-line : (line : ChangeRead) (after : List ℕ) → Next line after
+    by-line : (line : ChangeRead) (after : List ℕ) → LineRead line after
         → Sofar (withLine line (s .got) .bad) (then line after (withLine line (s .got)) (headsWith line (s .got) (s .heads)))
     by-line (Line code a b count next) after (f, same, less) =
         let cs = good .changes in
         let last = drop (s .got .words) after in
-        let c = readAs code a b count last in
+        let c = changeOf code a b count last in
         let enough : count ≤ length last = omega (arith, f .0 .0, length-drop (s .got .words) after, same, can-read) in
         let few : length (take count last) ≡ count = length-take-le count last enough in
         record {
@@ -179,11 +179,11 @@ module _ (text heads₀ words₀ : List ℕ) where
         let bad = bad-change text (s .got .n) (good .changes) (drop (s .at) text) (good .fits) (good .fit) (good .stands) rest (f .0) in
         known _ (s .got .changes + 2) (λ z. omega (arith, z)) (subst (FirstBad (linesOf text)) (omega (arith, good .number)) bad)
 
-    by-less : (line : ChangeRead) (after : List ℕ) → Next line after → left (then line after (withLine line (s .got)) []) < suc (length text - s .at)
+    by-less : (line : ChangeRead) (after : List ℕ) → LineRead line after → left (then line after (withLine line (s .got)) []) < suc (length text - s .at)
     by-less (Line code a b count next) after (f, same, less) = omega (arith, longer (f .0 .1), f .0 .1 .within, less)
     by-less NoLine after f = omega (arith, nothing-left (s .got .changes + 2) (s .at) (λ z. omega (arith, z)))
 
-    module _ (line : ChangeRead) (after : List ℕ) (f : Next line after) (got : Progress) (e : got ≡ withLine line (s .got)) where
+    module _ (line : ChangeRead) (after : List ℕ) (f : LineRead line after) (got : Progress) (e : got ≡ withLine line (s .got)) where
       pub line-holds : (heads : List ℕ) → heads ≡ headsWith line (s .got) (s .heads) → length heads ≡ length (s .heads) → Inv (then line after got heads)
       line-holds heads h same = record {
         heads-long = same ∙ v .heads-long;

@@ -30,8 +30,8 @@ use denote.Lend.{Held, lends-slice as lends-new, slice-back as lender-back}
 use denote.Index.{row, whole-out, whole-in, opens-slice, closes-slice}
 
 module _ (R : RattleType) (κ : Lft) (q : Share) (x : RefT (List (R .Denot))) (vs : List Val) where
-  abbrev Holds : GName → Fml
-  Holds γ = Held R (length (x .now)) (x .ptr .0) (x .ptr .1) γ
+  abbrev Borrowed : GName → Fml
+  Borrowed γ = Held R (length (x .now)) (x .ptr .0) (x .ptr .1) γ
 
   abbrev pub under : GName → RefT (List (R .Denot))
   under ε = record { ptr = x .ptr; name = ε; now = x .now }
@@ -42,7 +42,7 @@ module _ (R : RattleType) (κ : Lft) (q : Share) (x : RefT (List (R .Denot))) (v
   abbrev pub LentAgain : ℕ → GName → Fml
   LentAgain μ ε =
       fsep (at-slice R x vs)
-      (fsep (flent (μ ∷ []) (Holds ε)) (fsep (fobor κ q (Holds (x .name))) (fsep (fobs (x .name) now-there) (fauth (x .name) now-there))))
+      (fsep (flent (μ ∷ []) (Borrowed ε)) (fsep (fobor κ q (Borrowed (x .name))) (fsep (fobs (x .name) now-there) (fauth (x .name) now-there))))
 
   module _ {M : Type 1} {𝓤 : URA M} {H : Heap 𝓤} {A : Atoms 𝓤} (W : Given 𝓤 H A) (ℓ ℓ′ : Lifetime) {Γ : List (Item 𝓤)} {G : Goal 𝓤 H} where
     pub lends-slice : Soaks G
@@ -52,7 +52,7 @@ module _ (R : RattleType) (κ : Lft) (q : Share) (x : RefT (List (R .Denot))) (v
         fsplit ! $ pureL ! (at-slice R x vs) (λ p. fsplit ! $ opens-slice ! z R (x .now) (x .ptr .0) (x .ptr .1) $
         use1 W (‵ (cells (mem R) (x .now) (x .ptr .0) (x .ptr .1))) (whole-in 𝓤 H A W R (x .now) (x .ptr .0) (x .ptr .1)) $
         lft-new ! z (λ μ. move ! (1 ∷ []) $
-        use1 W (later (some (λ (ε : GName). ‵ (MutSlice ℓ′ (μ ∷ []) R .own (under ε) (slice-vals x)) ⊛ ‵ (flent (μ ∷ []) (Holds ε)))))
+        use1 W (later (some (λ (ε : GName). ‵ (MutSlice ℓ′ (μ ∷ []) R .own (under ε) (slice-vals x)) ⊛ ‵ (flent (μ ∷ []) (Borrowed ε)))))
         (lends-new 𝓤 H A W R ℓ′ (μ ∷ []) (x .now) (x .ptr .0) (x .ptr .1) (p .1)) $ await ! z $ pick ! (λ ε. split ! $
         rewrite ! 0 (λ (us : List Val). ‵ (MutSlice ℓ′ (μ ∷ []) R .own (under ε) us)) (sym (p .0)) refl $
         -- [the new slice; the lender's part; [μ]; the open borrow; obs; auth; …]

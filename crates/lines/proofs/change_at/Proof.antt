@@ -3,7 +3,7 @@
 use mathlib.Core.Path.{subst}
 use Rattle.lines.specs.Contracts.{CodeAt, EndsAt, WordsAt}
 use Rattle.lines.specs.declared.CodeRead.the-variants.{Code}
-use Rattle.lines.specs.declared.EndsRead.the-variants.{Pair}
+use Rattle.lines.specs.declared.EndsRead.the-variants.{Ends}
 use Rattle.lines.specs.declared.WordsRead.the-variants.{Words}
 use Rattle.lines.proofs.Laws as laws
 use borrow.Author.Needs.{needs}
@@ -16,7 +16,7 @@ code : (c : tie.After-known-told)
 code c = subst (CodeAt _ _) (c .before .code .given .1) (c .before .before .before .code-at .ensures)
 
 ends : (c : tie.After-known-told2)
-    → EndsAt (c .before .before .before .before .before .before .before .before .before .before .args .text .now) (c .before .before .before .before .before .code .given .0 .1 .0) (Pair (c .before .a .given .0 .0) (c .before .a .given .0 .1 .0) (c .before .a .given .0 .1 .1 .0))
+    → EndsAt (c .before .before .before .before .before .before .before .before .before .before .args .text .now) (c .before .before .before .before .before .code .given .0 .1 .0) (Ends (c .before .a .given .0 .0) (c .before .a .given .0 .1 .0) (c .before .a .given .0 .1 .1 .0))
 ends c = subst (EndsAt _ _) (c .before .a .given .1) (c .before .before .before .ends-at .ensures)
 
 words : (c : tie.After-known-told3)

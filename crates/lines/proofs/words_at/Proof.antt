@@ -1,4 +1,4 @@
--- `lines::words_at` meets its contract. The invariant is `Passed`: the words read stand there, and any text of words that stands there starts with them.
+-- `lines::words_at` meets its contract. The invariant is `GotWords`: the words read stand there, and any text of words that stands there starts with them.
 -- Assumes nothing.
 use Prim.Native.Nat.{ℕ, _+_, _-_, _≤_}
 use mathlib.Core.Path.{_≡_, refl, sym, subst}
@@ -7,19 +7,19 @@ use native.Mathlib.Omega.{arith}
 use borrow.Author.Needs.{needs}
 use lib.ListN.{length, take, length-set}
 use Rattle.lines.specs.Contracts.{WordAt}
-use Rattle.lines.proofs.Words.{Passed, passed-start, passed-word, passed-refused, passed-end, take-store}
+use Rattle.lines.proofs.Words.{GotWords, got-start, got-word, got-refused, got-end, take-store}
 use Rattle.lines.proofs.words_at.Statement.{statement}
 use Rattle.lines.proofs.words_at.Tie as tie
 
 abbrev Inv-loop : tie.InvT-loop
 Inv-loop text at words₀ i₀ count₀ words i count =
-    (count ≤ 128) × (length words ≡ length words₀) × (128 ≤ length words) × Passed text at (take count words) i
+    (count ≤ 128) × (length words ≡ length words₀) × (128 ≤ length words) × GotWords text at (take count words) i
 
 abbrev μ-loop : tie.MeasureT-loop
 μ-loop text at words₀ i₀ count₀ words i count = 128 - count
 
 loop-holds : tie.Need-loop-holds Inv-loop μ-loop
-loop-holds c = (omega arith, refl, c .before .before .pre, passed-start (c .before .before .args .text .now) (c .before .before .args .at))
+loop-holds c = (omega arith, refl, c .before .before .pre, got-start (c .before .before .args .text .now) (c .before .before .args .at))
 
 word-at-requires : tie.Need-word-at-requires Inv-loop μ-loop
 word-at-requires c κs = search needs
@@ -51,14 +51,14 @@ loop-again c =
       omega arith,
       simp length-set (l .inv .1),
       simp length-set (l .inv .2),
-      subst (λ (g : List ℕ). Passed (a .text .now) (a .at) g next) (sym e) (passed-word (a .text .now) (a .at) got (l .i) w next (l .inv .3) (k .0) (k .1 .1)),
+      subst (λ (g : List ℕ). GotWords (a .text .now) (a .at) g next) (sym e) (got-word (a .text .now) (a .at) got (l .i) w next (l .inv .3) (k .0) (k .1 .1)),
     )
 
 enum-told : tie.Need-enum-told Inv-loop μ-loop
 enum-told c = search needs
 
-end-at-requires : tie.Need-end-at-requires Inv-loop μ-loop
-end-at-requires c κs = search needs
+line-end-at-requires : tie.Need-line-end-at-requires Inv-loop μ-loop
+line-end-at-requires c κs = search needs
 
 same-length : tie.Need-same-length Inv-loop μ-loop
 same-length c = c .before .before .before .before .before .loop .inv .1
@@ -68,7 +68,7 @@ returns c =
     let a = c .before .before .before .before .before .before .before .before .args in
     let l = c .before .before .before .before .before .loop in
     let k = subst (WordAt _ _) (c .before .enum-told .given .1) (c .before .before .before .word-at .ensures) in
-    passed-end (a .text .now) (a .at) (l .words) (l .i) (l .count) (c .end-at .result) (l .inv .3) (l .inv .0) (omega arith) (λ e. absurd (k e)) (c .end-at .ensures)
+    got-end (a .text .now) (a .at) (l .words) (l .i) (l .count) (c .line-end-at .result) (l .inv .3) (l .inv .0) (omega arith) (λ e. absurd (k e)) (c .line-end-at .ensures)
 
 enum-told-2 : tie.Need-enum-told-2 Inv-loop μ-loop
 enum-told-2 c = search needs
@@ -81,10 +81,10 @@ returns-2 c =
     let a = c .before .before .before .before .before .before .before .args in
     let l = c .before .before .before .before .loop in
     let k = subst (WordAt _ _) (c .enum-told2 .given .1) (c .before .before .word-at .ensures) in
-    passed-refused (a .text .now) (a .at) (take (l .count) (l .words)) (l .i) (l .inv .3) (k .0) (k .1)
+    got-refused (a .text .now) (a .at) (take (l .count) (l .words)) (l .i) (l .inv .3) (k .0) (k .1)
 
-end-at-requires-2 : tie.Need-end-at-requires-2 Inv-loop μ-loop
-end-at-requires-2 c κs = search needs
+line-end-at-requires-2 : tie.Need-line-end-at-requires-2 Inv-loop μ-loop
+line-end-at-requires-2 c κs = search needs
 
 same-length-3 : tie.Need-same-length-3 Inv-loop μ-loop
 same-length-3 c = c .before .before .loop .inv .1
@@ -93,7 +93,7 @@ returns-3 : tie.Need-returns-3 Inv-loop μ-loop
 returns-3 c =
     let a = c .before .before .before .before .before .args in
     let l = c .before .before .loop in
-    passed-end (a .text .now) (a .at) (l .words) (l .i) (l .count) (c .end-at2 .result) (l .inv .3) (l .inv .0) (omega arith) (λ e. omega arith) (c .end-at2 .ensures)
+    got-end (a .text .now) (a .at) (l .words) (l .i) (l .count) (c .line-end-at2 .result) (l .inv .3) (l .inv .0) (omega arith) (λ e. omega arith) (c .line-end-at2 .ensures)
 
 pub words-at-spec : {M : Type 1} → statement M
 words-at-spec =
@@ -110,12 +110,12 @@ words-at-spec =
     loop-less
     loop-again
     enum-told
-    end-at-requires
+    line-end-at-requires
     same-length
     returns
     enum-told-2
     same-length-2
     returns-2
-    end-at-requires-2
+    line-end-at-requires-2
     same-length-3
     returns-3)

@@ -42,7 +42,7 @@ use Rattle.lines.specs.declared.RackRead.{RackRead}
 use Rattle.reader.specs.Place.{pastRack}
 use Rattle.reader.specs.declared.Reader.{Reader}
 use Rattle.reader.proofs.Reader as T
-use Rattle.reader.proofs.Held.{Behind, D, L, Own, OwnText, textVal, on, at-fits, text-out, opens-up, shuts}
+use Rattle.reader.proofs.Held.{Behind, D, L, Own, val, OwnText, on, at-fits, text-out, opens-up, shuts}
 use Rattle.reader.proofs.Frame.{span, starts, allocates, releases, ends, here, sets, stores}
 use Rattle.reader.proofs.Called.{Met, shown, calls-to}
 use Rattle.lines.proofs.RackRead as S
@@ -91,7 +91,7 @@ module _ {M : Type 1} (𝓤 : URA M) (H : Heap 𝓤) (A : Atoms 𝓤) (W : Given
 
   -- what the two calls are passed, the second at the line r with the machine value u
   abbrev to-read : Reading 𝓤 H A at-mem run .Ghost
-  to-read = (((κ′, tt), (q′, tt), tt, (h .text, (h .at, tt)), (textVal h ∷ [], (vint w64 (h .at) ∷ [], tt))), tt)
+  to-read = (((κ′, tt), (q′, tt), tt, (h .text, (h .at, tt)), (val (h .text) ∷ [], (vint w64 (h .at) ∷ [], tt))), tt)
 
   abbrev to-past : RackRead → Val → Past 𝓤 H A at-mem run .Ghost
   to-past r u = ((tt, tt, tt, (h .at, (r, tt)), (vint w64 (h .at) ∷ [], (u ∷ [], tt))), tt)
@@ -110,7 +110,7 @@ module _ {M : Type 1} (𝓤 : URA M) (H : Heap 𝓤) (A : Atoms 𝓤) (W : Given
         sets ! (of-opd ! (load ! (from ! (hop ! (look ! 11 refl) (fld ! refl (stop !)))) (look-in ! 0 (sub ! 0 refl (whole !)))))
         (init ! 5 refl (tt, LL.lawful (D κ′) (L κ′) 𝓤 H A W .typed h _ g .0 .1 .0)) $
         -- `rack_at`
-        move ! (1 ∷ []) $ use1 W (‵ (OwnText κ′ h) ⊛ ‵ (Own κ′ h)) (text-out 𝓤 H A W κ′ h) $ split ! $
+        move ! (1 ∷ []) $ use1 W (‵ (OwnText κ′ (h .text)) ⊛ ‵ (Own κ′ h)) (text-out 𝓤 H A W κ′ h) $ split ! $
         owned ! usize (Is usize) (uint-makes 𝓤 H A W w64) (h .at) _ (refl, at-fits κ′ h g) $ move ! (17 ∷ 1 ∷ []) $
         calls-to W rack-at.ended (rack-at.clauses 𝓤 H A at-mem run) to-read fm known-read (id⊢ 𝓤 _)
         (and-then ! (here ! 6 refl) (and-then ! (here ! 10 refl) (no-more !)))

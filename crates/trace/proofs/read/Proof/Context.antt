@@ -2,7 +2,7 @@
 --     ty, En           the type of each local, read off the code, and the locals where they lie
 --     Passed           the three slices, with their lifetimes and shares, and what is asked of them.        Post     what is left at exit
 --     Known            the functions that the body calls meet their contracts
---     State, Less      a stand of the loop at which its invariant holds, and the order by what is left to read
+--     Stood, Less      a stand of the loop at which its invariant holds, and the order by what is left to read
 --     At               what the body has at a state, as a turn begins: all that was lent is whole again, and each temporary is room
 --     With             the same with a line in _6, and the reader and the words after it
 -- Assumes nothing.
@@ -29,11 +29,11 @@ use denote.Builtin.{u8, u32}
 use denote.Exit.{yes}
 use denote.Ref.{RefT, at-last}
 use denote.Signature.{plain}
-use denote.Slice.{sliceVal, ShrSlice, MutSlice, Room}
+use denote.Slice.{ShrSlice, MutSlice, Room}
 use denote.Triple.Statement.{Triple}
 use denote.Triple.Walked.{Stays, stay-none-slice, stay-slice, walkOf}
 use Rattle.reader.specs.declared.Reader.{Reader}
-use Rattle.reader.proofs.Held.{Cell, Own}
+use Rattle.reader.proofs.Held.{Cell, Own, val, OwnText}
 use Rattle.reader.proofs.Frame.{env, rooms}
 use Rattle.reader.proofs.Called.{Met}
 use Rattle.reader.proofs.opened as opened
@@ -65,10 +65,6 @@ ty = tyAt mirᶜ.locals
 
 abbrev pub En : (ℕ → ℕ) → List (Ty × ℕ)
 En = env mirᶜ.locals
-
--- the machine value of a slice as it was passed
-abbrev pub val : RefT (List ℕ) → Val
-val x = sliceVal (x .ptr) (length (x .now))
 
 pub record Passed : Type 0 where
   pub κ : Lft
@@ -104,10 +100,7 @@ module _ (p : Passed) where
   abbrev pub vals : List Val × (List Val × (List Val × Unit {0}))
   vals = (val (p .text) ∷ [], (val (p .heads) ∷ [], (val (p .words) ∷ [], tt)))
 
-  -- what the text owns, and the heads and the words at a list
-  abbrev pub Text : Fml
-  Text = ShrSlice (named 0) (p .κ) u8 .own (p .text) (val (p .text) ∷ [])
-
+  -- what the heads and the words own at a list
   abbrev pub Heads : List ℕ → Fml
   Heads hs = MutSlice (named 1) (p .κ₁) u32 .own (at-last (p .heads) hs) (val (p .heads) ∷ [])
 
@@ -118,15 +111,15 @@ module _ (p : Passed) where
   abbrev pub reader : ℕ → Reader
   reader i = record { text = p .text; at = i }
 
-  pub record State : Type 0 where
+  pub record Stood : Type 0 where
     pub stand : Stand
     pub inv : Inv (p .text .now) (p .heads .now) (p .words .now) stand
     pub typed : Is G.the-row (stand .got) (G′.lowered (stand .got) ∷ [])
 
-  abbrev remains : State → ℕ
+  abbrev remains : Stood → ℕ
   remains t = left (p .text .now) (p .heads .now) (p .words .now) (t .stand)
 
-  abbrev pub Less : State → State → Type 0
+  abbrev pub Less : Stood → Stood → Type 0
   Less t u = remains t < remains u
 
   pub Less-wf : WellFounded Less
@@ -159,7 +152,7 @@ module _ {M : Type 1} {𝓤 : URA M} (p : Passed) (l : ℕ → ℕ) where
   abbrev Had : ℕ → List ℕ → List ℕ → List (Item 𝓤) → List (Item 𝓤)
   Had i hs ws Γ =
       ‵ (Cell (l 4) 0 (reader p i)) ∷ ‵ (Own (p .κ) (reader p i)) ∷ ‵ (flft (p .κ) (p .q))
-      ∷ ‵ (Heads p hs) ∷ ‵ (flft (p .κ₁) (p .q₁)) ∷ ‵ (Words p ws) ∷ ‵ (flft (p .κ₂) (p .q₂)) ∷ ‵ (Text p) ∷ Γ
+      ∷ ‵ (Heads p hs) ∷ ‵ (flft (p .κ₁) (p .q₁)) ∷ ‵ (Words p ws) ∷ ‵ (flft (p .κ₂) (p .q₂)) ∷ ‵ (OwnText (p .κ) (p .text)) ∷ Γ
 
   -- the locals from _5 down; _4 is above
   abbrev Named : Progress → List (Item 𝓤)
@@ -169,8 +162,8 @@ module _ {M : Type 1} {𝓤 : URA M} (p : Passed) (l : ℕ → ℕ) where
 
   -- [_4; what the reader owns; [κ]; the heads; [κ₁]; the words; [κ₂]; the text; room for _18; …; to room for _6; …; _5; …; what frees _4; _3; …; to room
   -- for _0; …]
-  abbrev pub At : State p → List (Item 𝓤)
+  abbrev pub At : Stood p → List (Item 𝓤)
   At t = Had (t .stand .at) (t .stand .heads) (t .stand .words) (rooms (drop 6 (En l)) (Named (t .stand .got)))
 
-  abbrev pub With : State p → ℕ → List ℕ → Val → List (Item 𝓤)
+  abbrev pub With : Stood p → ℕ → List ℕ → Val → List (Item 𝓤)
   With t i ws u = Had i (t .stand .heads) ws (rooms (drop 7 (En l)) (cell 6 u ∷ dies 6 ∷ Named (t .stand .got)))

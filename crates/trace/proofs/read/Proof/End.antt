@@ -33,7 +33,7 @@ use Rattle.trace.proofs.ReadLoop.{answers}
 use Rattle.trace.proofs.answer as answer
 use Rattle.trace.proofs.read as read
 use Rattle.trace.proofs.read.Code.Mir as mirᶜ
-use Rattle.trace.proofs.read.Proof.Context.{Passed, Known, State, stays, entry, Post, En, At}
+use Rattle.trace.proofs.read.Proof.Context.{Passed, Known, Stood, stays, entry, Post, En, At}
 
 module _ {M : Type 1} (𝓤 : URA M) (H : Heap 𝓤) (A : Atoms 𝓤) (W : Given 𝓤 H A) (at-mem : Memory → SProp 𝓤) (run : Routine → Fun 𝓤)
     (p : Passed) (𝓣 : Tables 𝓤 H) (known : Known 𝓤 H A at-mem run (𝓣 .C)) (l : ℕ → ℕ) where
@@ -41,7 +41,7 @@ module _ {M : Type 1} (𝓤 : URA M) (H : Heap 𝓤) (A : Atoms 𝓤) (W : Given
   abbrev to-answer : Progress → Met 𝓤 H A answer.ended (answer.clauses 𝓤 H A at-mem run) .Ghost
   to-answer got = ((tt, tt, tt, (got, tt), (G′.lowered got ∷ [], tt)), tt)
 
-  pub leaves : (t : State p) → (t .stand .got .bad ≡ 0 → length (p .text .now) ≤ t .stand .at)
+  pub leaves : (t : Stood p) → (t .stand .got .bad ≡ 0 → length (p .text .now) ≤ t .stand .at)
       → Sq W (At p l t) (runs (𝓣 .C) (𝓣 .Λ) (En l) mirᶜ.t-7 (atRet (En l) (Post 𝓤 H A at-mem run p)))
   leaves t over =
       owned ! G.the-row (Is G.the-row) (LL.makes G.the-type G′.the-plain 𝓤 H A) (t .stand .got) _ (t .typed) $

@@ -36,7 +36,7 @@ use Rattle.lines.specs.declared.ChangeRead.{ChangeRead}
 use Rattle.lines.proofs.ChangeRead as S
 use Rattle.lines.proofs.ChangeRead.Laws as S′
 use Rattle.reader.specs.Place.{pastLine, ChangeInto, Moved}
-use Rattle.reader.proofs.Held.{moved-on}
+use Rattle.reader.proofs.Held.{val, moved-on}
 use Rattle.reader.proofs.Lent.{lends, comes-back}
 use Rattle.reader.proofs.Frame.{here, sets, stores}
 use Rattle.reader.proofs.Called.{Met, shown, calls-to, calls-to-last}
@@ -45,11 +45,11 @@ use Rattle.trace.specs.declared.Progress.{Progress}
 use Rattle.trace.specs.Steps.{CanKeep, withLine, headsWith}
 use Rattle.trace.proofs.Progress as G
 use Rattle.trace.proofs.Progress.Laws as G′
-use Rattle.trace.proofs.ReadLoop.{Next, at-within, can-read, can-keep, line-holds, line-less}
+use Rattle.trace.proofs.ReadLoop.{LineRead, at-within, can-read, can-keep, line-holds, line-less}
 use Rattle.trace.proofs.SliceLent.{lends-slice, slice-back}
 use Rattle.trace.proofs.with_line as with-line
 use Rattle.trace.proofs.read.Code.Mir as mirᶜ
-use Rattle.trace.proofs.read.Proof.Context.{ty, En, val, Passed, reader, State, Less, Post, Known, At, With}
+use Rattle.trace.proofs.read.Proof.Context.{ty, En, Passed, reader, Stood, Less, Post, Known, At, With}
 use Rattle.trace.proofs.read.Proof.End.{leaves}
 
 -- what is left of a sequence after its first part
@@ -87,7 +87,7 @@ module _ {M : Type 1} (𝓤 : URA M) (H : Heap 𝓤) (A : Atoms 𝓤) (W : Given
   Done = atReturn 𝓤 H (En l) (Post 𝓤 H A at-mem run p)
 
   -- a turn's postcondition: there is less to read, or the loop is left and the rest of the body runs
-  abbrev Turned : State p → Out → SProp 𝓤
+  abbrev Turned : Stood p → Out → SProp 𝓤
   Turned t = afterTurn 𝓤 H (Below 𝓤 H A (Less p) (At p l) t) (afterBlock 𝓤 H (afterSeq 𝓤 H (Wp 𝓤 H C Λ (En l) mirᶜ.t-7 Done) Done))
 
   -- what `next_line` is passed, for the lifetimes ν ∷ κ and μ, under the names δ and ε, at the reader, the words and the place in them
@@ -117,10 +117,10 @@ module _ {M : Type 1} (𝓤 : URA M) (H : Heap 𝓤) (A : Atoms 𝓤) (W : Given
   )
 
   -- a line c that was read at the state t, where all lines fit so far and some text was left, with the words after it
-  module _ (t : State p) (none : t .stand .got .bad ≡ 0) (c : ChangeRead) (ws : List ℕ)
-      (next : Next (p .text .now) (p .heads .now) (p .words .now) (p .asked) (t .stand) (t .inv) none c ws) where
+  module _ (t : Stood p) (none : t .stand .got .bad ≡ 0) (c : ChangeRead) (ws : List ℕ)
+      (next : LineRead (p .text .now) (p .heads .now) (p .words .now) (p .asked) (t .stand) (t .inv) none c ws) where
     abbrev then : (got : Progress) (vs : List Val) → got ≡ withLine c (t .stand .got) → Is G.the-row got vs
-        → (hs : List ℕ) → hs ≡ headsWith c (t .stand .got) (t .stand .heads) → length hs ≡ length (t .stand .heads) → State p
+        → (hs : List ℕ) → hs ≡ headsWith c (t .stand .got) (t .stand .heads) → length hs ≡ length (t .stand .heads) → Stood p
     then got vs e is hs h same = record {
       stand = record { at = pastLine (t .stand .at) c; got = got; heads = hs; words = ws };
       inv = line-holds (p .text .now) (p .heads .now) (p .words .now) (p .asked) (t .stand) (t .inv) none c ws next got e hs h same;
@@ -155,7 +155,7 @@ module _ {M : Type 1} (𝓤 : URA M) (H : Heap 𝓤) (A : Atoms 𝓤) (W : Given
         can : CanKeep (t .stand .heads) c (t .stand .got)
         can = can-keep (p .text .now) (p .heads .now) (p .words .now) (p .asked) (t .stand) (t .inv) none c ws next
 
-  module _ (t : State p) (none : t .stand .got .bad ≡ 0) (within : t .stand .at < length (p .text .now)) where
+  module _ (t : Stood p) (none : t .stand .got .bad ≡ 0) (within : t .stand .at < length (p .text .now)) where
     reads-line : Sq W (At p l t) (runs C Λ (En l) reading (anyQ (Turned t)))
     unfolding afterTurn
     reads-line =
@@ -193,7 +193,7 @@ module _ {M : Type 1} (𝓤 : URA M) (H : Heap 𝓤) (A : Atoms 𝓤) (W : Given
         few : t .stand .got .words < 2 ^ 64
         few = LL.owed G.the-type G′.the-laws (t .stand .got) _ (t .typed) .1 .1 .0 .1
 
-  pub turns : (t : State p) → Sq W (At p l t) (runs C Λ (En l) mirᶜ.turn-1 (anyQ (Turned t)))
+  pub turns : (t : Stood p) → Sq W (At p l t) (runs C Λ (En l) mirᶜ.turn-1 (anyQ (Turned t)))
   unfolding afterTurn
   turns t =
       sets ! (bin ! (load ! (from ! (fld ! refl (stop !))) (look-in ! 34 (sub ! 3 refl (whole !)))) (lit ! tt) tt) (init ! 24 refl (tt, tt)) $
