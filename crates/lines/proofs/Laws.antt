@@ -1,5 +1,4 @@
--- Laws of the lines of a trace: what stands in a text that starts with a line, piece by piece, and that a line is the line of one value
--- alone. Assumes nothing.
+-- Laws of the lines of a trace: the pieces that each is made of, and that a line is the line of one value alone. Assumes nothing.
 use Prim.Native.Nat.{ℕ}
 use mathlib.Core.Path.{_≡_, refl, sym, ap, _∙_}
 use mathlib.Core.Logic.{_⊎_, inl, inr}
@@ -15,77 +14,51 @@ use Rattle.model.specs.Trace.{rackLine, codeText, wordText, changeLine, LineCha
 use Rattle.model.proofs.Tests.{eq?, eqb-no}
 use Rattle.text.specs.Number.{isDigit, NoDigit, NumberThen}
 use Rattle.text.proofs.Decimals.{same-number, same-rest}
+use Rattle.lines.proofs.Pieces.{Between, Printed, Then, Sole, Form, between-sole, then-sole, form-sole}
 use Rattle.lines.specs.Pieces.{IsCode, endsText, FitEnds, wordsText, Fit, FitWords}
 
 -- a space and a closing bracket are no digits: what they begin goes on no number
-pub space-no-digit : isDigit 32 ≡ false
+space-no-digit : isDigit 32 ≡ false
 unfolding isDigit
 space-no-digit = refl
 
-pub close-no-digit : isDigit 41 ≡ false
+close-no-digit : isDigit 41 ≡ false
 unfolding isDigit
 close-no-digit = refl
 
--- Line 1. Where its pieces stand one after the other the line stands; and where a line stands, what its reader has left after each piece
--- (rack-1, rack-2, rack-3) starts with the next one. The same goes for the pieces of a change's line.
+-- Line 1.
 
-pub rack-found : {t t₁ t₂ t₃ : List ℕ} {n : ℕ} → t ≡ bytes "(rack (boards " ++ t₁ → NumberThen t₁ n t₂ → t₂ ≡ bytes "))\n" ++ t₃ → t ≡ rackLine n ++ t₃
+pub rack-form : Form rackLine Fit (Between (bytes "(rack (boards ") (bytes "))\n")) (λ n. n)
 unfolding rackLine
-rack-found {n = n} l₁ h l₂ = l₁ ∙ ap (λ (u : List ℕ). bytes "(rack (boards " ++ u) (h .written ∙ ap (λ (u : List ℕ). decimal n ++ u) l₂) ∙ simp append-assoc
+rack-form = record {
+  split = λ n {t} {u} fit e. record {
+    rest = decimal n ++ (bytes "))\n" ++ u);
+    before = e ∙ simp append-assoc;
+    number = record { written = refl; ends = close-no-digit; small = fit };
+  };
+  joined = λ n {t} {u} k. let e : t ≡ bytes "(rack (boards " ++ (decimal n ++ (bytes "))\n" ++ u)) = cc in (k .number .small, e ∙ simp append-assoc);
+}
 
-pub rack-1 : {t : List ℕ} (n : ℕ) (r : List ℕ) → t ≡ rackLine n ++ r → t ≡ bytes "(rack (boards " ++ (decimal n ++ (bytes "))\n" ++ r))
-unfolding rackLine
-rack-1 n r e = e ∙ simp append-assoc
-
-pub rack-2 : {t t₁ : List ℕ} (n : ℕ) (r : List ℕ) → Fit n → t ≡ rackLine n ++ r → t ≡ bytes "(rack (boards " ++ t₁ → NumberThen t₁ n (bytes "))\n" ++ r)
-rack-2 {t₁ = t₁} n r s e l =
-    record { written = append-cancel-left (bytes "(rack (boards ") t₁ (decimal n ++ (bytes "))\n" ++ r)) (sym l ∙ rack-1 n r e); ends = close-no-digit; small = s }
-
-pub rack-3 : {t t₁ t₂ : List ℕ} {m : ℕ} (n : ℕ) (r : List ℕ) → Fit n → t ≡ rackLine n ++ r → t ≡ bytes "(rack (boards " ++ t₁ → NumberThen t₁ m t₂
-    → t₂ ≡ bytes "))\n" ++ r
-rack-3 n r s e l h = same-rest h (rack-2 n r s e l)
-
--- two first lines with the same text are the same, and so is what follows
-pub rack-same : (n m : ℕ) (r u : List ℕ) → Fit n → Fit m → rackLine n ++ r ≡ rackLine m ++ u → (n ≡ m) × (r ≡ u)
-rack-same n m r u s z e =
-    let h = rack-2 n r s refl (rack-1 n r refl) in
-    let k = rack-2 m u z e (rack-1 n r refl) in
-    (same-number h k, append-cancel-left (bytes "))\n") r u (same-rest h k))
+pub rack-sole : Sole (Printed rackLine Fit)
+rack-sole = form-sole rack-form (λ n. n) (λ _. refl) between-sole
 
 -- The two vertices.
 
-pub ends-found : {t t₁ t₂ t₃ t₄ : List ℕ} {a b : ℕ} → NumberThen t a t₁ → t₁ ≡ bytes " " ++ t₂ → NumberThen t₂ b t₃ → t₃ ≡ bytes ") (draws" ++ t₄
-    → t ≡ endsText (record { a = a; b = b }) ++ t₄
+pub ends-form : Form endsText FitEnds (Then (Between [] (bytes " ")) (Between [] (bytes ") (draws"))) (λ x. (x .a, x .b))
 unfolding endsText
-ends-found {a = a} {b = b} h l k m =
-    h .written ∙ ap (λ (u : List ℕ). decimal a ++ u) (l ∙ ap (λ (u : List ℕ). bytes " " ++ u) (k .written ∙ ap (λ (u : List ℕ). decimal b ++ u) m)) ∙ simp append-assoc
+ends-form = record {
+  split = λ x {t} {u} fit e. record {
+    rest = decimal (x .b) ++ (bytes ") (draws" ++ u);
+    first = record { rest = t; before = refl; number = record { written = e ∙ simp append-assoc; ends = space-no-digit; small = fit .0 } };
+    second = record { rest = _; before = refl; number = record { written = refl; ends = close-no-digit; small = fit .1 } };
+  };
+  joined = λ x {t} {u} k.
+      let e : t ≡ decimal (x .a) ++ (bytes " " ++ (decimal (x .b) ++ (bytes ") (draws" ++ u))) = cc in
+      ((k .first .number .small, k .second .number .small), e ∙ simp append-assoc);
+}
 
-pub ends-1 : {t : List ℕ} (x : Ends) (r : List ℕ) → FitEnds x → t ≡ endsText x ++ r → NumberThen t (x .a) (bytes " " ++ (decimal (x .b) ++ (bytes ") (draws" ++ r)))
-unfolding endsText
-ends-1 x r s e = record { written = e ∙ simp append-assoc; ends = space-no-digit; small = s .0 }
-
-pub ends-2 : {t t₁ : List ℕ} {a : ℕ} (x : Ends) (r : List ℕ) → FitEnds x → t ≡ endsText x ++ r → NumberThen t a t₁
-    → t₁ ≡ bytes " " ++ (decimal (x .b) ++ (bytes ") (draws" ++ r))
-ends-2 x r s e h = same-rest h (ends-1 x r s e)
-
-pub ends-3 : {t t₁ t₂ : List ℕ} {a : ℕ} (x : Ends) (r : List ℕ) → FitEnds x → t ≡ endsText x ++ r → NumberThen t a t₁ → t₁ ≡ bytes " " ++ t₂
-    → NumberThen t₂ (x .b) (bytes ") (draws" ++ r)
-ends-3 {t₂ = t₂} x r s e h l = record { written = append-cancel-left (bytes " ") t₂ _ (sym l ∙ ends-2 x r s e h); ends = close-no-digit; small = s .1 }
-
-pub ends-4 : {t t₁ t₂ t₃ : List ℕ} {a b : ℕ} (x : Ends) (r : List ℕ) → FitEnds x → t ≡ endsText x ++ r → NumberThen t a t₁ → t₁ ≡ bytes " " ++ t₂
-    → NumberThen t₂ b t₃ → t₃ ≡ bytes ") (draws" ++ r
-ends-4 x r s e h l k = same-rest k (ends-3 x r s e h l)
-
--- two pairs of vertices with the same text are the same, and so is what follows
-pub ends-same : (x y : Ends) (r u : List ℕ) → FitEnds x → FitEnds y → endsText x ++ r ≡ endsText y ++ u → (x ≡ y) × (r ≡ u)
-ends-same x y r u s z e =
-    let hx = ends-1 x r s refl in
-    let hy = ends-1 y u z e in
-    let kx = ends-3 x r s refl hx refl in
-    let ky = ends-3 y u z e hx refl in (
-      (λ i. record { a = same-number hx hy i; b = same-number kx ky i }),
-      append-cancel-left (bytes ") (draws") r u (same-rest kx ky),
-    )
+pub ends-sole : Sole (Printed endsText FitEnds)
+ends-sole = form-sole ends-form (λ y. record { a = y .0; b = y .1 }) (λ _. refl) (then-sole between-sole between-sole)
 
 -- The code.
 
@@ -111,12 +84,18 @@ code-none code r (inr p) f g e = g r (e ∙ ap (λ (l : List ℕ). l ++ r) (code
 add-drop : (r u : List ℕ) → bytes "(add (" ++ r ≡ bytes "(drop (" ++ u → ⊥
 add-drop r u e = let z : _≡_ {A = ℕ} 97 100 = cc in omega arith
 
+same-code : (k l : ℕ) (r u : List ℕ) → k ≡ l → codeText k ++ r ≡ codeText l ++ u → (k ≡ l) × (r ≡ u)
+same-code k l r u p e = (p, append-cancel-left (codeText l) r u (ap (λ (x : ℕ). codeText x ++ r) (sym p) ∙ e))
+
 -- two codes with the same text are the same, and so is what follows
-pub code-same : (k l : ℕ) (r u : List ℕ) → IsCode k → IsCode l → codeText k ++ r ≡ codeText l ++ u → (k ≡ l) × (r ≡ u)
-code-same k l r u (inl p) (inl q) e = (p ∙ sym q, append-cancel-left (codeText l) r u (ap (λ (x : ℕ). codeText x ++ r) (q ∙ sym p) ∙ e))
-code-same k l r u (inl p) (inr q) e = absurd (add-drop r u (ap (λ (x : List ℕ). x ++ r) (sym (code-add k p)) ∙ e ∙ ap (λ (x : List ℕ). x ++ u) (code-drop l q)))
-code-same k l r u (inr p) (inl q) e = absurd (add-drop u r (ap (λ (x : List ℕ). x ++ u) (sym (code-add l q)) ∙ sym e ∙ ap (λ (x : List ℕ). x ++ r) (code-drop k p)))
-code-same k l r u (inr p) (inr q) e = (p ∙ sym q, append-cancel-left (codeText l) r u (ap (λ (x : ℕ). codeText x ++ r) (q ∙ sym p) ∙ e))
+code-same : (k l : ℕ) (r u : List ℕ) → IsCode k → IsCode l → codeText k ++ r ≡ codeText l ++ u → (k ≡ l) × (r ≡ u)
+code-same k l r u (inl p) (inl q) e = same-code k l r u (p ∙ sym q) e
+code-same k l r u (inl p) (inr q) e = absurd (add-drop r u (rw (code-add k p, code-drop l q) at e))
+code-same k l r u (inr p) (inl q) e = absurd (add-drop u r (rw (code-add l q, code-drop k p) at (sym e)))
+code-same k l r u (inr p) (inr q) e = same-code k l r u (p ∙ sym q) e
+
+pub code-sole : Sole (Printed codeText IsCode)
+code-sole = record { same = λ {t} {x} {y} {u} {v} h k. code-same x y u v (h .good) (k .good) (sym (h .stands) ∙ k .stands) }
 
 -- The words.
 
@@ -132,12 +111,15 @@ words-cons : (w : ℕ) (v rest : List ℕ) → wordsText (w ∷ v) ++ rest ≡ 3
 unfolding texts wordText wordsText
 words-cons w v rest = simp append-assoc
 
+word-then : {t : List ℕ} (w : ℕ) (v rest : List ℕ) → Fit w → t ≡ decimal w ++ (wordsText v ++ rest) → NumberThen t w (wordsText v ++ rest)
+word-then w v rest fit e = record { written = e; ends = words-no-digit v rest; small = fit }
+
 -- where a space stands, a word stands after it
 pub words-word : (v rest t : List ℕ) → All Fit v → 32 ∷ t ≡ wordsText v ++ rest → (w : ℕ) × (v′ : List ℕ) × (v ≡ w ∷ v′) × NumberThen t w (wordsText v′ ++ rest)
 unfolding texts wordText wordsText
 words-word [] rest t s e = let z : _≡_ {A = ℕ} 32 41 = cc in absurd (omega arith)
 words-word (w ∷ v) rest t s e =
-    (w, v, refl, record { written = tail (e ∙ words-cons w v rest); ends = words-no-digit v rest; small = s .0 })
+    (w, v, refl, word-then w v rest (s .0) (tail (e ∙ words-cons w v rest)))
 
 -- where none stands, the words are at their end
 pub words-end : (v rest t : List ℕ) → (getD t 0 0 ≡ 32 → ⊥) → t ≡ wordsText v ++ rest → t ≡ bytes "))\n" ++ rest
@@ -152,46 +134,42 @@ words-same [] [] r u s z e = (refl, append-cancel-left (bytes "))\n") r u e)
 words-same [] (y ∷ w) r u s z e = let q : _≡_ {A = ℕ} 41 32 = cc in absurd (omega arith)
 words-same (x ∷ v) [] r u s z e = let q : _≡_ {A = ℕ} 32 41 = cc in absurd (omega arith)
 words-same (x ∷ v) (y ∷ w) r u s z e =
-    let h : NumberThen (decimal x ++ (wordsText v ++ r)) x (wordsText v ++ r) = record { written = refl; ends = words-no-digit v r; small = s .0 } in
-    let k : NumberThen (decimal x ++ (wordsText v ++ r)) y (wordsText w ++ u) = record { written = tail (sym (words-cons x v r) ∙ e ∙ words-cons y w u); ends = words-no-digit w u; small = z .0 } in
+    let h = word-then x v r (s .0) refl in
+    let k = word-then y w u (z .0) (tail (sym (words-cons x v r) ∙ e ∙ words-cons y w u)) in
     let (p, q) = words-same v w r u (s .1) (z .1) (same-rest h k) in
     ((λ i. same-number h k i ∷ p i), q)
+
+pub words-sole : Sole (Printed wordsText FitWords)
+words-sole = record { same = λ {t} {x} {y} {u} {v} h k. words-same x y u v (h .good .1) (k .good .1) (sym (h .stands) ∙ k .stands) }
 
 -- The line of a change.
 
 abbrev ends : Change → Ends
 ends c = record { a = c .a; b = c .b }
 
-fit-ends : {c : Change} → LineChange c → FitEnds (ends c)
-fit-ends l = (l .a-fits, l .b-fits)
-
-pub fit-words : {c : Change} → LineChange c → FitWords (c .words)
-fit-words l = (l .few, l .words-fit)
-
--- the pieces make the line
-pub change-1 : {t : List ℕ} (c : Change) (r : List ℕ) → t ≡ changeLine c ++ r → t ≡ codeText (c .code) ++ (endsText (ends c) ++ (wordsText (c .words) ++ r))
+pieces : (c : Change) (u : List ℕ) → changeLine c ++ u ≡ codeText (c .code) ++ (endsText (ends c) ++ (wordsText (c .words) ++ u))
 unfolding changeLine endsText wordsText
-change-1 c r e = e ∙ simp append-assoc
+pieces c u = simp append-assoc
 
-pub change-2 : {t t₁ : List ℕ} (c : Change) (r : List ℕ) (k : ℕ) → LineChange c → IsCode k → t ≡ changeLine c ++ r → t ≡ codeText k ++ t₁
-    → t₁ ≡ endsText (ends c) ++ (wordsText (c .words) ++ r)
-change-2 c r k g i e h = code-same k (c .code) _ _ i (g .codes) (sym h ∙ change-1 c r e) .1
+pub change-form : Form changeLine LineChange (Then (Printed codeText IsCode) (Then (Printed endsText FitEnds) (Printed wordsText FitWords)))
+    (λ c. (c .code, (ends c, c .words)))
+change-form = record {
+  split = λ c {t} {u} g e. record {
+    rest = endsText (ends c) ++ (wordsText (c .words) ++ u);
+    first = record { good = g .codes; stands = e ∙ pieces c u };
+    second = record {
+      rest = wordsText (c .words) ++ u;
+      first = record { good = (g .a-fits, g .b-fits); stands = refl };
+      second = record { good = (g .few, g .words-fit); stands = refl };
+    };
+  };
+  joined = λ c {t} {u} k.
+      let (v, w) : FitEnds (ends c) × FitWords (c .words) = (k .second .first .good, k .second .second .good) in
+      let e : t ≡ codeText (c .code) ++ (endsText (ends c) ++ (wordsText (c .words) ++ u)) = cc in
+      (record { codes = k .first .good; a-fits = v .0; b-fits = v .1; few = w .0; words-fit = w .1 }, e ∙ sym (pieces c u));
+}
 
-pub change-3 : {t t₁ t₂ : List ℕ} (c : Change) (r : List ℕ) (k : ℕ) (b : Ends) → LineChange c → IsCode k → FitEnds b → t ≡ changeLine c ++ r
-    → t ≡ codeText k ++ t₁ → t₁ ≡ endsText b ++ t₂ → t₂ ≡ wordsText (c .words) ++ r
-change-3 c r k b g i z e h l = ends-same b (ends c) _ _ z (fit-ends g) (sym l ∙ change-2 c r k g i e h) .1
-
-pub change-found : {t t₁ t₂ : List ℕ} (c : Change) (t₃ : List ℕ) → t ≡ codeText (c .code) ++ t₁ → t₁ ≡ endsText (ends c) ++ t₂
-    → t₂ ≡ wordsText (c .words) ++ t₃ → t ≡ changeLine c ++ t₃
-change-found c t₃ h l m =
-    h
-    ∙ ap (λ (u : List ℕ). codeText (c .code) ++ u) (l ∙ ap (λ (u : List ℕ). endsText (ends c) ++ u) m)
-    ∙ sym (change-1 c t₃ refl)
-
--- two changes with the same line are the same, and so is what follows
-pub change-same : (x y : Change) (r u : List ℕ) → LineChange x → LineChange y → changeLine x ++ r ≡ changeLine y ++ u → (x ≡ y) × (r ≡ u)
-change-same x y r u s z e =
-    let k = code-same (x .code) (y .code) _ _ (s .codes) (z .codes) (sym (change-1 x r refl) ∙ change-1 y u e) in
-    let b = ends-same (ends x) (ends y) _ _ (fit-ends s) (fit-ends z) (k .1) in
-    let w = words-same (x .words) (y .words) r u (s .words-fit) (z .words-fit) (b .1) in
-    ((λ i. record { code = k .0 i; a = b .0 i .a; b = b .0 i .b; words = w .0 i }), w .1)
+pub change-sole : Sole (Printed changeLine LineChange)
+change-sole =
+    form-sole change-form (λ y. record { code = y .0; a = y .1 .0 .a; b = y .1 .0 .b; words = y .1 .1 }) (λ _. refl)
+    (then-sole code-sole (then-sole ends-sole words-sole))

@@ -41,7 +41,10 @@ pub pair-most : (s : State) (v : ℕ) → Small s → v < s .n → length (pairL
 unfolding pairLine
 pair-most s v h b =
     let r : s .rank v - 1 ≤ largest = omega (arith, h .ranks v b) in
-    omega (arith, three-most (bytes "(pair (") v (bytes " ") (s .mate v) (bytes ") (level ") (s .rank v - 1) (bytes "))\n") (omega (arith, h .few)) (h .mates v b) r)
+    omega (
+      arith,
+      three-most (bytes "(pair (") v (bytes " ") (s .mate v) (bytes ") (level ") (s .rank v - 1) (bytes "))\n") (omega (arith, h .few)) (h .mates v b) r,
+    )
 
 pub pairs-most : (s : State) → Small s → length (pairLines s) ≤ 50 * 256
 unfolding pairLines

@@ -116,7 +116,9 @@ joined : (t : List ℕ) → texts itself (linesOf t) ≡ t
 unfolding texts
 joined [] = unfold linesOf in refl
 joined (b ∷ t) = elim (eq? b 10) [
-  | inl e ↦ ap (λ (x : ℕ). texts itself (linesOf (x ∷ t))) e ∙ ap (texts itself) (lines-feed t) ∙ ap (λ (u : List ℕ). 10 ∷ u) (joined t) ∙ ap (λ (x : ℕ). x ∷ t) (sym e)
+  | inl e ↦
+      ap (λ (x : ℕ). texts itself (linesOf (x ∷ t))) e ∙ ap (texts itself) (lines-feed t)
+      ∙ ap (λ (u : List ℕ). 10 ∷ u) (joined t) ∙ ap (λ (x : ℕ). x ∷ t) (sym e)
   | inr h ↦ ap (texts itself) (lines-other b t h) ∙ on-first b (linesOf t) ∙ ap (λ (u : List ℕ). b ∷ u) (joined t)
 ]
 

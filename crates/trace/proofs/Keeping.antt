@@ -99,7 +99,10 @@ pub four-set : (l : List ℕ) (at w x y z : ℕ) → at + 4 ≤ length l
     → set (set (set (set l at w) (at + 1) x) (at + 2) y) (at + 3) z ≡ over at (w ∷ (x ∷ (y ∷ (z ∷ [])))) l
 four-set l at w x y z h =
     let one : set l at w ≡ over at (w ∷ []) l =
-    ap (λ (m : List ℕ). set m at w) (sym (over-none at l)) ∙ ap (λ (j : ℕ). set (over at [] l) j w) (sym (add-zero at)) ∙ over-set at [] l w (omega (arith, h)) in
-    let two : set (set l at w) (at + 1) x ≡ over at (w ∷ (x ∷ [])) l = ap (λ (m : List ℕ). set m (at + 1) x) one ∙ over-set at (w ∷ []) l x (omega (arith, h)) in
-    let three : set (set (set l at w) (at + 1) x) (at + 2) y ≡ over at (w ∷ (x ∷ (y ∷ []))) l = ap (λ (m : List ℕ). set m (at + 2) y) two ∙ over-set at (w ∷ (x ∷ [])) l y (omega (arith, h)) in
+    ap (λ (m : List ℕ). set m at w) (sym (over-none at l))
+    ∙ ap (λ (j : ℕ). set (over at [] l) j w) (sym (add-zero at)) ∙ over-set at [] l w (omega (arith, h)) in
+    let two : set (set l at w) (at + 1) x ≡ over at (w ∷ (x ∷ [])) l =
+    ap (λ (m : List ℕ). set m (at + 1) x) one ∙ over-set at (w ∷ []) l x (omega (arith, h)) in
+    let three : set (set (set l at w) (at + 1) x) (at + 2) y ≡ over at (w ∷ (x ∷ (y ∷ []))) l =
+    ap (λ (m : List ℕ). set m (at + 2) y) two ∙ over-set at (w ∷ (x ∷ [])) l y (omega (arith, h)) in
     ap (λ (m : List ℕ). set m (at + 3) z) three ∙ over-set at (w ∷ (x ∷ (y ∷ []))) l z (omega (arith, h))

@@ -42,7 +42,11 @@ pub record OneLine (l : List ℕ) : Type 0 where
   whole : l ≡ body ++ (10 ∷ [])
 
 one-more : (p : List ℕ) {l : List ℕ} → NoFeed p → OneLine l → OneLine (p ++ l)
-one-more p f o = record { body = p ++ o .body; clean = no-feed-append p (o .body) f (o .clean); whole = ap (λ (u : List ℕ). p ++ u) (o .whole) ∙ sym (append-assoc p (o .body) (10 ∷ [])) }
+one-more p f o = record {
+  body = p ++ o .body;
+  clean = no-feed-append p (o .body) f (o .clean);
+  whole = ap (λ (u : List ℕ). p ++ u) (o .whole) ∙ sym (append-assoc p (o .body) (10 ∷ []));
+}
 
 one-end : OneLine (bytes "))\n")
 one-end = record { body = 41 ∷ 41 ∷ []; clean = omega arith; whole = refl }
@@ -133,7 +137,8 @@ bad-after : (cs : List Change) (t : List ℕ) → All LineChange cs → 0 < leng
 unfolding texts FirstBadChange
 bad-after [] t g some absent = bad-here t some absent
 bad-after (c ∷ cs) t g some absent =
-    let e : linesOf ((changeLine c ++ texts changeLine cs) ++ t) ≡ changeLine c ∷ linesOf (texts changeLine cs ++ t) = ap linesOf (append-assoc (changeLine c) (texts changeLine cs) t) ∙ line-then (texts changeLine cs ++ t) (change-line c) in
+    let e : linesOf ((changeLine c ++ texts changeLine cs) ++ t) ≡ changeLine c ∷ linesOf (texts changeLine cs ++ t) =
+    ap linesOf (append-assoc (changeLine c) (texts changeLine cs) t) ∙ line-then (texts changeLine cs ++ t) (change-line c) in
     subst (λ (ls : List (List ℕ)). FirstBadChange ls (suc (length cs))) (sym e) ((c, g .0, refl), bad-after cs t (g .1) some absent)
 
 pub bad-change : (s : List ℕ) (n : ℕ) (cs : List Change) (t : List ℕ) → n ≤ largest → All LineChange cs → s ≡ rackLine n ++ (texts changeLine cs ++ t)

@@ -14,7 +14,7 @@ use Rattle.model.specs.Trace.{Trace, Holds, traceText, rackLine, codeText, chan
 use Rattle.model.proofs.Tests.{eq?}
 use Rattle.text.proofs.Decimals.{length-pos}
 use Rattle.text.proofs.Texts.{texts-snoc}
-use Rattle.lines.proofs.Laws.{code-text, rack-same, change-same}
+use Rattle.lines.proofs.Laws.{code-text, rack-sole, change-sole}
 use Rattle.trace.proofs.Lines.{line-then, rack-line, change-line, lines-feed, lines-other}
 
 -- One line more.
@@ -24,7 +24,9 @@ pub trace-more : (s : List ℕ) (n : ℕ) (cs : List Change) (c : Change) (t u :
 trace-more s n cs c t u e h =
     e
     ∙ ap (λ (v : List ℕ). rackLine n ++ (texts changeLine cs ++ v)) h
-    ∙ ap (λ (v : List ℕ). rackLine n ++ v) (sym (append-assoc (texts changeLine cs) (changeLine c) u) ∙ ap (λ (v : List ℕ). v ++ u) (sym (texts-snoc changeLine cs c)))
+    ∙ ap (λ (v : List ℕ). rackLine n ++ v) (
+    sym (append-assoc (texts changeLine cs) (changeLine c) u) ∙ ap (λ (v : List ℕ). v ++ u) (sym (texts-snoc changeLine cs c))
+    )
 
 -- A text holds one trace alone.
 
@@ -45,7 +47,7 @@ changes-same [] [] g h e = refl
 changes-same [] (y ∷ ys) g h e = absurd (no-change y (texts changeLine ys) e)
 changes-same (x ∷ xs) [] g h e = absurd (no-change x (texts changeLine xs) (sym e))
 changes-same (x ∷ xs) (y ∷ ys) g h e =
-    let (p, q) = change-same x y (texts changeLine xs) (texts changeLine ys) (g .0) (h .0) e in
+    let (p, q) = change-sole .same (record { good = g .0; stands = refl }) (record { good = h .0; stands = e }) in
     let r = changes-same xs ys (g .1) (h .1) q in
     λ i. p i ∷ r i
 
@@ -53,7 +55,7 @@ changes-same (x ∷ xs) (y ∷ ys) g h e =
 pub trace-same : (text : List ℕ) (x y : Trace) → Holds text x → Holds text y → x ≡ y
 unfolding traceText
 trace-same text x y g h =
-    let (p, q) = rack-same (x .n) (y .n) (texts changeLine (x .changes)) (texts changeLine (y .changes)) (g .n-fits) (h .n-fits) (sym (g .printed) ∙ h .printed) in
+    let (p, q) = rack-sole .same (record { good = g .n-fits; stands = g .printed }) (record { good = h .n-fits; stands = h .printed }) in
     let r = changes-same (x .changes) (y .changes) (g .changes-fit) (h .changes-fit) q in
     λ i. record { n = p i; changes = r i }
 
@@ -62,13 +64,15 @@ trace-same text x y g h =
 changes-fit : (cs : List Change) (k : ℕ) → All LineChange cs → FirstBadChange (linesOf (texts changeLine cs)) k → ⊥
 unfolding texts linesOf FirstBadChange
 changes-fit [] k g b = b
-changes-fit (c ∷ cs) zero g b = subst (λ (ls : List (List ℕ)). FirstBadChange ls 0) (line-then (texts changeLine cs) (change-line c)) b (c, g .0, refl)
-changes-fit (c ∷ cs) (suc k) g b = changes-fit cs k (g .1) (subst (λ (ls : List (List ℕ)). FirstBadChange ls (suc k)) (line-then (texts changeLine cs) (change-line c)) b .1)
+changes-fit (c ∷ cs) zero g b = rw (line-then (texts changeLine cs) (change-line c)) at b (c, g .0, refl)
+changes-fit (c ∷ cs) (suc k) g b = changes-fit cs k (g .1) ((rw (line-then (texts changeLine cs) (change-line c)) at b) .1)
 
 -- no line of a text that fits is bad
 pub trace-fits : (text : List ℕ) (t : Trace) (k : ℕ) → Holds text t → FirstBad (linesOf text) k → ⊥
 unfolding traceText
-trace-fits text t k g b = go k (subst (λ (ls : List (List ℕ)). FirstBad ls k) (ap linesOf (g .printed) ∙ line-then (texts changeLine (t .changes)) (rack-line (t .n))) b)
+trace-fits text t k g b =
+    let lines = ap linesOf (g .printed) ∙ line-then (texts changeLine (t .changes)) (rack-line (t .n)) in
+    go k (subst (λ (ls : List (List ℕ)). FirstBad ls k) lines b)
   where
     go : (k : ℕ) → FirstBad (rackLine (t .n) ∷ linesOf (texts changeLine (t .changes))) k → ⊥
     go zero h = unfold FirstBad in h

@@ -49,7 +49,8 @@ returns-3 : tie.Need-returns-3
 unfolding codeText
 returns-3 c =
     let l = subst (LiteralAt _ _ _) (c .enum-told2 .given .1) (c .before .before .literal-at2 .ensures) in
-    let k = subst (LiteralAt _ _ _) (c .before .before .before .before .enum-told .given .1) (c .before .before .before .before .before .before .literal-at .ensures) in
+    let p = c .before .before .before .before in
+    let k = subst (LiteralAt _ _ _) (p .enum-told .given .1) (p .before .before .literal-at .ensures) in
     λ x rest g e. laws.code-none x rest g k l e
 
 pub code-at-spec : {M : Type 1} → statement M

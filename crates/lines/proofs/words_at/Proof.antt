@@ -1,6 +1,6 @@
 -- `lines::words_at` meets its contract. The invariant is `GotWords`: the words read stand there, and any text of words that stands there starts with them.
 -- Assumes nothing.
-use Prim.Native.Nat.{ℕ, _+_, _-_, _≤_}
+use Prim.Native.Nat.{ℕ, _-_, _≤_}
 use mathlib.Core.Path.{_≡_, refl, sym, subst}
 use mathlib.Core.List.{List}
 use native.Mathlib.Omega.{arith}
@@ -68,7 +68,8 @@ returns c =
     let a = c .before .before .before .before .before .before .before .before .args in
     let l = c .before .before .before .before .before .loop in
     let k = subst (WordAt _ _) (c .before .enum-told .given .1) (c .before .before .before .word-at .ensures) in
-    got-end (a .text .now) (a .at) (l .words) (l .i) (l .count) (c .line-end-at .result) (l .inv .3) (l .inv .0) (omega arith) (λ e. absurd (k e)) (c .line-end-at .ensures)
+    got-end (a .text .now) (a .at) (l .words) (l .i) (l .count) (c .line-end-at .result) (l .inv .3) (l .inv .0) (omega arith)
+    (λ e. absurd (k e)) (c .line-end-at .ensures)
 
 enum-told-2 : tie.Need-enum-told-2 Inv-loop μ-loop
 enum-told-2 c = search needs
@@ -93,7 +94,8 @@ returns-3 : tie.Need-returns-3 Inv-loop μ-loop
 returns-3 c =
     let a = c .before .before .before .before .before .args in
     let l = c .before .before .loop in
-    got-end (a .text .now) (a .at) (l .words) (l .i) (l .count) (c .line-end-at2 .result) (l .inv .3) (l .inv .0) (omega arith) (λ e. omega arith) (c .line-end-at2 .ensures)
+    got-end (a .text .now) (a .at) (l .words) (l .i) (l .count) (c .line-end-at2 .result) (l .inv .3) (l .inv .0) (omega arith)
+    (λ e. omega arith) (c .line-end-at2 .ensures)
 
 pub words-at-spec : {M : Type 1} → statement M
 words-at-spec =

@@ -23,8 +23,8 @@ use sound.WpLaws.{WpFn-mono}
 use denote.Laws.{Is}
 use denote.Plain.{uint-makes}
 use denote.Builtin.{u8, usize}
-use denote.Ref.{RefT, NamedLft}
-use denote.Signature.{plain, namedLft}
+use denote.Ref.{RefT}
+use denote.Signature.{plain}
 use denote.Slice.{ShrSlice, slice-vals, shr-slice-tells, shr-slice-lawful, shr-slice-copy}
 use denote.Steps.{nothing, owned}
 use denote.Struct.Rest.{own-shut}
@@ -34,9 +34,8 @@ use denote.Triple.Table.{entered}
 use denote.Triple.Walked.{Stays, stay-none-slice, walkOf, goes-none-slice, Walks, walked, walk-meets}
 use denote.Exit.{yes}
 use Rattle.reader.specs.declared.Reader.{Reader}
-use Rattle.reader.proofs.Reader as T
 use Rattle.reader.proofs.Reader.Laws as T′
-use Rattle.reader.proofs.Held.{val, OwnText}
+use Rattle.reader.proofs.Held.{D, L, Own, val, OwnText}
 use Rattle.reader.proofs.Frame.{starts, allocates, releases, ends, here, sets}
 use Rattle.reader.proofs.Called.{shown}
 use Rattle.reader.proofs.opened.Key.{name as #reader·opened}
@@ -49,9 +48,6 @@ stays = (stay-none-slice (0 ∷ []) tt (plain (λ _. u8)) yes, tt)
 
 module _ {M : Type 1} (𝓤 : URA M) (H : Heap 𝓤) (A : Atoms 𝓤) (W : Given 𝓤 H A) (mem : Memory → SProp 𝓤) (run : Routine → Fun 𝓤)
     (κ : Lft) (q : Share) (s : RefT (List ℕ)) where
-  abbrev α : NamedLft
-  α = namedLft 1 0 tt (κ, tt)
-
   abbrev made : Reader
   made = record { text = s; at = 0 }
 
@@ -62,10 +58,10 @@ module _ {M : Type 1} (𝓤 : URA M) (H : Heap 𝓤) (A : Atoms 𝓤) (W : Given
   Post = walkOf 𝓤 H A opened.ended stays (opened.clauses 𝓤 H A mem run) .post y
 
   -- what the fields own together is what the struct owns
-  makes : ent 𝓤 (sem 𝓤 H A (OwnText κ s)) (sem 𝓤 H A (T.the-row α .own made (T′.lowered made ∷ [])))
+  makes : ent 𝓤 (sem 𝓤 H A (OwnText κ s)) (sem 𝓤 H A (Own κ made))
   makes =
-      qed W (‵ (OwnText κ s) ∷ []) ∵ nothing ! $ owned ! usize (Is usize) (uint-makes 𝓤 H A W w64) 0 _ (refl, lit< tt) $ fjoin ! $ move ! (1 ∷ 0 ∷ []) $ fjoin ! $
-      by ! (own-shut 𝓤 H A W (T.the-type α) (T′.the-laws α) (s, (0, tt)))
+      qed W (‵ (OwnText κ s) ∷ []) ∵ nothing ! $ owned ! usize (Is usize) (uint-makes 𝓤 H A W w64) 0 _ (refl, lit< tt) $ fjoin ! $
+      move ! (1 ∷ 0 ∷ []) $ fjoin ! $ by ! (own-shut 𝓤 H A W (D κ) (L κ) (s, (0, tt)))
 
   module _ (C : Calls 𝓤 H) (Λ : Loops 𝓤 H) where
     walk : Is (ShrSlice (named 0) κ u8) s (val s ∷ [])
@@ -80,7 +76,7 @@ module _ {M : Type 1} (𝓤 : URA M) (H : Heap 𝓤) (A : Atoms 𝓤) (W : Given
         returns ! (look ! 2 refl) $ forget ! 0 refl $ forget ! 2 refl $ releases ! $
         -- the result has a copy of the text
         move ! (1 ∷ []) $ use1 W (‵ (OwnText κ s) ⊛ ‵ (OwnText κ s)) (shr-slice-copy 𝓤 H A W (named 0) κ u8 .twice s (val s ∷ [])) $ split ! $
-        use1 W (‵ (T.the-row α .own made (T′.lowered made ∷ []))) makes $ move ! (2 ∷ 1 ∷ 0 ∷ []) $
+        use1 W (‵ (Own κ made)) makes $ move ! (2 ∷ 1 ∷ 0 ∷ []) $
         ends W opened.ended stays (opened.clauses 𝓤 H A mem run) y (T′.lowered made) made (tt, tt) (tt, tt) (shown 𝓤 (refl, refl))))
 
 module _ {M : Type 1} (𝓤 : URA M) (H : Heap 𝓤) (A : Atoms 𝓤) (W : Given 𝓤 H A) (mem : Memory → SProp 𝓤) (run : Routine → Fun 𝓤) (𝓣 : Tables 𝓤 H) where
