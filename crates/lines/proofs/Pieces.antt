@@ -1,6 +1,6 @@
 -- Texts that are read piece by piece. A piece is a relation `P t x u`: the text t starts with x's text, and u is what follows.
---     Between p q        a number between two fixed texts.        Printed print Good     a good value's text.        Then P Q     one piece after another
---     No P t           t starts with no such piece.        Sole P       t starts with at most one: its value and what follows are given
+--     Between p q      a number between two fixed texts.        Printed print Good     a good value's text.        Then P Q     one piece after another
+--     No P t           t starts with no such piece.        Sole P     t starts with at most one: its value and what follows are given
 --     not-.., after    which piece, or part of one, doesn't stand there, after those that do
 --     Form             the pieces that a printed value is made of.        absent, found, form-sole     no such value, one, and at most one
 -- Assumes nothing.
