@@ -1,13 +1,12 @@
 -- `lines::words_at` meets its contract. The invariant is `GotWords`: the words read stand there, and any text of words that stands there starts with them.
 -- Assumes nothing.
-use Prim.Native.Nat.{ℕ, _-_, _≤_}
-use mathlib.Core.Path.{_≡_, refl, sym, subst}
-use mathlib.Core.List.{List}
+use Prim.Native.Nat.{_-_, _≤_}
+use mathlib.Core.Path.{_≡_, refl, subst}
 use native.Mathlib.Omega.{arith}
 use borrow.Author.Needs.{needs}
 use lib.ListN.{length, take, length-set}
 use Rattle.lines.specs.Contracts.{WordAt}
-use Rattle.lines.proofs.Words.{GotWords, got-start, got-word, got-refused, got-end, take-store}
+use Rattle.lines.proofs.Words.{GotWords, got-start, got-stored, got-refused, got-end}
 use Rattle.lines.proofs.words_at.Statement.{statement}
 use Rattle.lines.proofs.words_at.Tie as tie
 
@@ -41,17 +40,13 @@ loop-less c = omega arith
 
 loop-again : tie.Need-loop-again Inv-loop μ-loop
 loop-again c =
-    let a = c .before .before .before .before .before .before .before .before .args in
     let l = c .before .before .before .before .before .loop in
-    let got = take (l .count) (l .words) in
     let k = subst (WordAt _ _) (c .before .word .given .1) (c .before .before .before .word-at .ensures) in
-    let w = c .before .word .given .0 .0 in
-    let next = c .before .word .given .0 .1 .0 in
-    let e = take-store (l .words) (l .count) w (omega arith) in (
+    let next = c .before .word .given .0 .1 .0 in (
       omega arith,
       simp length-set (l .inv .1),
       simp length-set (l .inv .2),
-      subst (λ (g : List ℕ). GotWords (a .text .now) (a .at) g next) (sym e) (got-word (a .text .now) (a .at) got (l .i) w next (l .inv .3) (k .0) (k .1 .1)),
+      got-stored (l .words) (l .count) next (l .inv .3) (omega arith) (k .0) (k .1 .1),
     )
 
 enum-told : tie.Need-enum-told Inv-loop μ-loop
@@ -65,11 +60,9 @@ same-length c = c .before .before .before .before .before .loop .inv .1
 
 returns : tie.Need-returns Inv-loop μ-loop
 returns c =
-    let a = c .before .before .before .before .before .before .before .before .args in
     let l = c .before .before .before .before .before .loop in
     let k = subst (WordAt _ _) (c .before .enum-told .given .1) (c .before .before .before .word-at .ensures) in
-    got-end (a .text .now) (a .at) (l .words) (l .i) (l .count) (c .line-end-at .result) (l .inv .3) (l .inv .0) (omega arith)
-    (λ e. absurd (k e)) (c .line-end-at .ensures)
+    got-end (l .words) (l .count) (c .line-end-at .result) (l .inv .3) (l .inv .0) (omega arith) (λ e. absurd (k e)) (c .line-end-at .ensures)
 
 enum-told-2 : tie.Need-enum-told-2 Inv-loop μ-loop
 enum-told-2 c = search needs
@@ -79,10 +72,9 @@ same-length-2 c = c .before .before .before .before .loop .inv .1
 
 returns-2 : tie.Need-returns-2 Inv-loop μ-loop
 returns-2 c =
-    let a = c .before .before .before .before .before .before .before .args in
     let l = c .before .before .before .before .loop in
     let k = subst (WordAt _ _) (c .enum-told2 .given .1) (c .before .before .word-at .ensures) in
-    got-refused (a .text .now) (a .at) (take (l .count) (l .words)) (l .i) (l .inv .3) (k .0) (k .1)
+    got-refused (l .inv .3) (k .0) (k .1)
 
 line-end-at-requires-2 : tie.Need-line-end-at-requires-2 Inv-loop μ-loop
 line-end-at-requires-2 c κs = search needs
@@ -92,10 +84,8 @@ same-length-3 c = c .before .before .loop .inv .1
 
 returns-3 : tie.Need-returns-3 Inv-loop μ-loop
 returns-3 c =
-    let a = c .before .before .before .before .before .args in
     let l = c .before .before .loop in
-    got-end (a .text .now) (a .at) (l .words) (l .i) (l .count) (c .line-end-at2 .result) (l .inv .3) (l .inv .0) (omega arith)
-    (λ e. omega arith) (c .line-end-at2 .ensures)
+    got-end (l .words) (l .count) (c .line-end-at2 .result) (l .inv .3) (l .inv .0) (omega arith) (λ e. omega arith) (c .line-end-at2 .ensures)
 
 pub words-at-spec : {M : Type 1} → statement M
 words-at-spec =
