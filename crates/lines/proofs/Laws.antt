@@ -118,8 +118,7 @@ word-then w v rest fit e = record { written = e; ends = words-no-digit v rest; s
 pub words-word : (v rest t : List ℕ) → All Fit v → 32 ∷ t ≡ wordsText v ++ rest → (w : ℕ) × (v′ : List ℕ) × (v ≡ w ∷ v′) × NumberThen t w (wordsText v′ ++ rest)
 unfolding texts wordText wordsText
 words-word [] rest t s e = let z : _≡_ {A = ℕ} 32 41 = cc in absurd (omega arith)
-words-word (w ∷ v) rest t s e =
-    (w, v, refl, word-then w v rest (s .0) (tail (e ∙ words-cons w v rest)))
+words-word (w ∷ v) rest t s e = (w, v, refl, word-then w v rest (s .0) (tail (e ∙ words-cons w v rest)))
 
 -- where none stands, the words are at their end
 pub words-end : (v rest t : List ℕ) → (getD t 0 0 ≡ 32 → ⊥) → t ≡ wordsText v ++ rest → t ≡ bytes "))\n" ++ rest
@@ -128,7 +127,7 @@ words-end [] rest t h e = e
 words-end (w ∷ v) rest t h e = absurd (h (ap (λ (l : List ℕ). getD l 0 0) e))
 
 -- two lists of words with the same text are the same, and so is what follows
-pub words-same : (v w r u : List ℕ) → All Fit v → All Fit w → wordsText v ++ r ≡ wordsText w ++ u → (v ≡ w) × (r ≡ u)
+words-same : (v w r u : List ℕ) → All Fit v → All Fit w → wordsText v ++ r ≡ wordsText w ++ u → (v ≡ w) × (r ≡ u)
 unfolding texts wordText wordsText
 words-same [] [] r u s z e = (refl, append-cancel-left (bytes "))\n") r u e)
 words-same [] (y ∷ w) r u s z e = let q : _≡_ {A = ℕ} 41 32 = cc in absurd (omega arith)
@@ -139,7 +138,7 @@ words-same (x ∷ v) (y ∷ w) r u s z e =
     let (p, q) = words-same v w r u (s .1) (z .1) (same-rest h k) in
     ((λ i. same-number h k i ∷ p i), q)
 
-pub words-sole : Sole (Printed wordsText FitWords)
+words-sole : Sole (Printed wordsText FitWords)
 words-sole = record { same = λ {t} {x} {y} {u} {v} h k. words-same x y u v (h .good .1) (k .good .1) (sym (h .stands) ∙ k .stands) }
 
 -- The line of a change.
