@@ -5,8 +5,10 @@ use crate::asked::Asked;
 use crate::Verdict;
 use pairing::{Audit, Level, Linked, Mate};
 use reference::calls::change_rack;
+use reference::checks::random::Random;
 use reference::{Answer, Rack};
 use std::fmt::{self, Debug, Display, Formatter};
+use std::sync::atomic::{AtomicU64, Ordering};
 
 /// An error saying what the core gave and what was wanted, if they differ.
 pub fn same<T: PartialEq + Debug>(what: impl Display, core: T, wanted: T) -> Verdict {
@@ -16,12 +18,11 @@ pub fn same<T: PartialEq + Debug>(what: impl Display, core: T, wanted: T) -> Ver
     Err(format!("{what}: core {core:?}, wanted {wanted:?}"))
 }
 
-/// An error naming the first byte that differs, and its field.
+/// An error naming the first byte of a rack that differs, and its field, or the
+/// lengths if these differ.
 pub fn same_bytes(what: impl Display, core: &[u8], wanted: &[u8]) -> Verdict {
-    if core == wanted {
-        return Ok(());
-    }
-    match (0..wanted.len()).find(|&at| core[at] != wanted[at]) {
+    same(format_args!("{what}: length"), core.len(), wanted.len())?;
+    match first_difference(core, wanted) {
         None => Ok(()),
         Some(at) => {
             let (field, one, other) = (field(at), core[at], wanted[at]);
@@ -30,6 +31,14 @@ pub fn same_bytes(what: impl Display, core: &[u8], wanted: &[u8]) -> Verdict {
             ))
         }
     }
+}
+
+/// The first place at which bytes of the same length differ.
+pub fn first_difference(core: &[u8], wanted: &[u8]) -> Option<usize> {
+    if core == wanted {
+        return None;
+    }
+    (0..wanted.len()).find(|&at| core[at] != wanted[at])
 }
 
 /// The field of a rack in which a byte stands.
@@ -46,8 +55,18 @@ fn field(at: usize) -> String {
     }
 }
 
-/// Bytes that stand before and after a buffer lent to the core.
-const GUARD: [u8; 7] = [0xa5; 7];
+/// The bytes that stand on each side of a buffer lent to the core.
+const GUARD: usize = 64;
+
+/// Bytes to stand around a buffer: others at each call, so that nothing that the
+/// core could write there is what they are, and nothing that it could read there
+/// gives the same twice.
+fn guards() -> [u8; 2 * GUARD] {
+    static CALLS: AtomicU64 = AtomicU64::new(0);
+    let call = CALLS.fetch_add(1, Ordering::Relaxed);
+    let mut random = Random::new(0x6a5d_0000 + call);
+    [(); 2 * GUARD].map(|()| random.bits() as u8)
+}
 
 /// A call of the core on a copy of a buffer, and the bytes after it. The copy
 /// stands between guards, which must stay.
@@ -55,12 +74,25 @@ pub fn guarded<T>(
     buffer: &[u8],
     call: impl FnOnce(&mut [u8]) -> T,
 ) -> Result<(T, Vec<u8>), String> {
-    let mut all = [&GUARD, buffer, &GUARD].concat();
-    let lent = GUARD.len()..GUARD.len() + buffer.len();
-    let answer = call(&mut all[lent.clone()]);
-    let stay = all.starts_with(&GUARD) && all.ends_with(&GUARD);
+    let guards = guards();
+    let (before, after) = guards.split_at(GUARD);
+    let mut all = [before, buffer, after].concat();
+    let (lent, end) = all[GUARD..].split_at_mut(buffer.len());
+    let answer = call(lent);
+    let (bytes, stay) = (lent.to_vec(), end == after && all[..GUARD] == *before);
     same("bytes around the buffer stay", stay, true)?;
-    Ok((answer, all[lent].to_vec()))
+    Ok((answer, bytes))
+}
+
+/// A call of the core that may only read the buffer.
+fn reading<T>(
+    what: impl Display,
+    buffer: &[u8],
+    call: impl FnOnce(&[u8]) -> T,
+) -> Result<T, String> {
+    let (answer, bytes) = guarded(buffer, |lent| call(lent))?;
+    same_bytes(what, &bytes, buffer)?;
+    Ok(answer)
 }
 
 /// Making a rack in a buffer that holds these bytes.
@@ -76,51 +108,58 @@ pub fn make(buffer: &[u8], n: u32) -> Result<u32, String> {
 
 /// The audit.
 pub fn audit(rack: &[u8]) -> Result<(u32, bool), String> {
-    let Audit { number, yes } = pairing::audit(rack);
+    let Audit { number, yes } = reading("audit", rack, pairing::audit)?;
     let core = (number.0, yes);
     let (number, yes) = reference::audit(rack);
     same("audit", core, (number, u32::from(yes)))?;
     Ok((number, yes))
 }
 
-/// The level of v and its mate; the number of the first.
-pub fn level_and_mate(rack: &[u8], v: u32) -> Result<u32, String> {
+/// The level of v.
+pub fn level(rack: &[u8], v: u32) -> Result<(u32, i32), String> {
+    let what = format!("level of {v}");
+    let Level { number, level } = reading(&what, rack, |rack| pairing::level(rack, v))?;
     let wanted = reference::level(rack, v);
-    let Level { number, level } = pairing::level(rack, v);
-    same(format_args!("level of {v}"), (number.0, level), wanted)?;
-    let Mate { number, mate } = pairing::mate(rack, v);
-    let told = format_args!("mate of {v}");
-    same(told, (number.0, mate), reference::mate(rack, v))?;
-    Ok(wanted.0)
+    same(&what, (number.0, level), wanted)?;
+    Ok(wanted)
 }
 
-/// Whether v and w are linked; the number.
-pub fn linked(rack: &[u8], v: u32, w: u32) -> Result<u32, String> {
+/// The mate of v.
+pub fn mate(rack: &[u8], v: u32) -> Result<(u32, u32), String> {
+    let what = format!("mate of {v}");
+    let Mate { number, mate } = reading(&what, rack, |rack| pairing::mate(rack, v))?;
+    let wanted = reference::mate(rack, v);
+    same(&what, (number.0, mate), wanted)?;
+    Ok(wanted)
+}
+
+/// Whether v and w are linked.
+pub fn linked(rack: &[u8], v: u32, w: u32) -> Result<(u32, u32), String> {
+    let what = format!("link {v}-{w}");
+    let Linked { number, linked } = reading(&what, rack, |rack| pairing::linked(rack, v, w))?;
     let wanted = reference::linked(rack, v, w);
-    let Linked { number, linked } = pairing::linked(rack, v, w);
-    same(format_args!("link {v}-{w}"), (number.0, linked), wanted)?;
-    Ok(wanted.0)
+    same(&what, (number.0, linked), wanted)?;
+    Ok(wanted)
 }
 
-/// One change of the core.
-fn core_change(rack: &mut [u8], asked: &Asked) -> Answer {
-    let pairing::Answer {
-        number,
-        draws,
-        falls,
-        pairs,
-    } = pairing::change(rack, asked.code, asked.a, asked.b, &asked.words);
-    Answer {
-        number: number.0,
-        draws,
-        falls,
-        pairs,
-    }
+/// One change of the core, on a copy of a buffer, and the bytes after it.
+fn core_change(buffer: &[u8], asked: &Asked) -> Result<(Answer, Vec<u8>), String> {
+    let lent = asked.words.clone();
+    let call = |rack: &mut [u8]| pairing::change(rack, asked.code, asked.a, asked.b, &lent);
+    let (answer, bytes) = guarded(buffer, call)?;
+    same("the words lent", &lent, &asked.words)?;
+    let answer = Answer {
+        number: answer.number.0,
+        draws: answer.draws,
+        falls: answer.falls,
+        pairs: answer.pairs,
+    };
+    Ok((answer, bytes))
 }
 
 /// One change on a buffer of any bytes and any length.
 pub fn change(buffer: &[u8], asked: &Asked) -> Result<Answer, String> {
-    let (core, bytes) = guarded(buffer, |rack| core_change(rack, asked))?;
+    let (core, bytes) = core_change(buffer, asked)?;
     let mut wanted = buffer.to_vec();
     let answer = reference::change(&mut wanted, asked.code, asked.a, asked.b, &asked.words);
     same(asked, core, answer)?;
@@ -154,14 +193,12 @@ impl Twin {
     pub fn change(&mut self, asked: &Asked) -> Result<Answer, String> {
         let Asked { code, a, b, words } = asked;
         let (answer, _) = change_rack(&mut self.rack, *code, *a, *b, words);
+        let (core, bytes) = core_change(&self.bytes, asked)?;
+        same(asked, core, answer)?;
         if answer.number == 0 {
-            same(asked, core_change(&mut self.bytes, asked), answer)?;
-            same_bytes(asked, &self.bytes, &self.rack.to_bytes())?;
-            return Ok(answer);
+            self.bytes = self.rack.to_bytes();
         }
-        let before = self.bytes.clone();
-        same(asked, core_change(&mut self.bytes, asked), answer)?;
-        same_bytes(asked, &self.bytes, &before)?;
+        same_bytes(asked, &bytes, &self.bytes)?;
         Ok(answer)
     }
 }

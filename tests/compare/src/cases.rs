@@ -3,7 +3,6 @@
 use crate::asked::Asked;
 use crate::both::{self, same, Twin};
 use crate::Verdict;
-use pairing::{Level, Mate, Number};
 use reference::{Answer, Rack};
 
 /// A change: its code, two vertices and words, and its number, draws, falls
@@ -138,15 +137,16 @@ impl Case {
 
     /// Asks for every level, mate and link at the end.
     fn ask(&self, rack: &[u8]) -> Verdict {
-        both::audit(rack)?;
+        same("the audit", both::audit(rack)?, (0, true))?;
         for v in 0..self.n {
             let pair = self.pairs.iter().find(|(a, b, _)| *a == v || *b == v);
             let (mate, at) = pair.map_or((65_535, -1), |(a, b, level)| (a + b - v, *level));
-            both::level_and_mate(rack, v as u32)?;
-            let (number, mate) = (Number::OK, mate as u32);
-            let (level, mate) = (Level { number, level: at }, Mate { number, mate });
-            same("the level stated", pairing::level(rack, v as u32), level)?;
-            same("the mate stated", pairing::mate(rack, v as u32), mate)?;
+            same("the level stated", both::level(rack, v as u32)?, (0, at))?;
+            same(
+                "the mate stated",
+                both::mate(rack, v as u32)?,
+                (0, mate as u32),
+            )?;
             for w in 0..=self.n {
                 both::linked(rack, v as u32, w as u32)?;
             }
@@ -157,7 +157,8 @@ impl Case {
 
 /// The rack after P3 with both bits of the link 0-1 set.
 fn doubly_owned() -> Result<Vec<u8>, String> {
-    let mut rack = CASES[2].play()?.rack;
+    let third = CASES.iter().find(|case| case.name == "P3");
+    let mut rack = third.expect("P3").play()?.rack;
     rack.owner[0][1] = true;
     rack.owner[1][0] = true;
     Ok(rack.to_bytes())
@@ -189,8 +190,9 @@ pub fn queries() -> Verdict {
     let rack = doubly_owned()?;
     same("P11, audit", both::audit(&rack)?, (0, false))?;
     for v in 0..6 {
-        same("P11, level", both::level_and_mate(&rack, v)?, 6)?;
-        same("P11, link", both::linked(&rack, v, 1)?, 6)?;
+        same("P11, level", both::level(&rack, v)?, (6, 0))?;
+        same("P11, mate", both::mate(&rack, v)?, (6, 0))?;
+        same("P11, link", both::linked(&rack, v, 1)?, (6, 0))?;
     }
     Ok(())
 }

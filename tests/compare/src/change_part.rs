@@ -1,9 +1,10 @@
 //! The changes.
 
 use crate::asked::Asked;
-use crate::both::{self, Twin};
+use crate::both::{self, same, Twin};
 use crate::cases;
-use crate::damage::{damaged, DAMAGES};
+use crate::change_tally::{fitting, Tally};
+use crate::damage::{damaged, Damage, DAMAGES};
 use crate::fans::{fan, FANS};
 use crate::rack_part::{noise, WRONG_LENGTHS};
 use crate::racks::{self, Kind};
@@ -87,59 +88,38 @@ const DAMAGED: (u64, u64) = (2_000, 0x1600_0000);
 pub fn all() -> Verdict {
     cases::changes()?;
     println!("P1 to P11: equal, and as stated");
-    let mut whole = Tally::default();
-    whole.add("from empty racks", from_empty()?);
+    let mut whole = Tally::new();
+    whole.add("from empty racks", &from_empty()?);
     for start in &STARTS {
-        whole.add(&format!("from {}", start.name), from_racks(start)?);
+        let part = from_racks(start)?;
+        let told = |why| format!("{}: {why}", start.name);
+        part.numbers.came(&[0]).map_err(told)?;
+        whole.add(&format!("from {}", start.name), &part);
     }
-    whole.add("from fans", from_fans()?);
-    whole.add("on damaged racks", on_damaged()?);
-    whole.add("with all sorts of figures", all_sorts()?);
-    whole.print("in all");
-    Ok(())
+    whole.add("from fans", &from_fans()?);
+    for (name, damage) in DAMAGES {
+        let part = on_damaged(name, damage)?;
+        let told = |why| format!("damage to {name}: {why}");
+        part.numbers.came(&[6]).map_err(told)?;
+        whole.add(&format!("with damage to {name}"), &part);
+    }
+    let part = all_sorts()?;
+    part.numbers.all_came()?;
+    whole.add("with all sorts of figures", &part);
+    whole.all_came()
 }
 
-/// What was tried.
-#[derive(Clone, Copy, Default)]
-struct Tally {
-    numbers: [u64; 13],
-    draws: u64,
-    most_draws: u32,
-    most_falls: u32,
-}
-
-impl Tally {
-    fn note(&mut self, answer: &Answer) {
-        self.numbers[answer.number as usize] += 1;
-        self.draws += u64::from(answer.draws);
-        self.most_draws = self.most_draws.max(answer.draws);
-        self.most_falls = self.most_falls.max(answer.falls);
-    }
-
-    fn add(&mut self, what: &str, part: Tally) {
-        part.print(what);
-        for (sum, number) in self.numbers.iter_mut().zip(part.numbers) {
-            *sum += number;
-        }
-        self.draws += part.draws;
-        self.most_draws = self.most_draws.max(part.most_draws);
-        self.most_falls = self.most_falls.max(part.most_falls);
-    }
-
-    fn print(&self, what: &str) {
-        let all: u64 = self.numbers.iter().sum();
-        let numbers: Vec<String> = (0..13)
-            .filter(|&number| self.numbers[number] > 0)
-            .map(|number| format!("{} with {number}", self.numbers[number]))
-            .collect();
-        println!(
-            "{all} changes {what}: {}; {} draws, most draws {} and falls {}: equal",
-            numbers.join(", "),
-            self.draws,
-            self.most_draws,
-            self.most_falls
-        );
-    }
+/// One change of a rack.
+fn step(twin: &mut Twin, asked: &Asked, tally: &mut Tally) -> Result<Answer, String> {
+    let fit = fitting(&twin.rack, asked);
+    let answer = twin.change(asked)?;
+    same(
+        "the first number that fits",
+        answer.number,
+        fit.first().copied().unwrap_or(0),
+    )?;
+    tally.note_on(&twin.rack, asked, &fit, &answer);
+    Ok(answer)
 }
 
 /// Random changes on one rack, one after the other.
@@ -150,16 +130,15 @@ fn walk(
     adds: usize,
     tally: &mut Tally,
 ) -> Verdict {
-    for step in 0..changes {
+    for place in 0..changes {
         let asked = Asked::any(random, &twin.rack, adds);
-        let answer = twin.change(&asked);
-        tally.note(&answer.map_err(|why| format!("change {step}: {why}"))?);
+        step(twin, &asked, tally).map_err(|why| format!("change {place}: {why}"))?;
     }
     Ok(())
 }
 
 fn from_empty() -> Result<Tally, String> {
-    let mut tally = Tally::default();
+    let mut tally = Tally::new();
     for (n, lists, changes) in LISTS {
         for list in 0..lists {
             let seed = 0x1000_0000 + 1_000 * n as u64 + list;
@@ -176,7 +155,7 @@ fn from_empty() -> Result<Tally, String> {
 }
 
 fn from_racks(start: &Start) -> Result<Tally, String> {
-    let mut tally = Tally::default();
+    let mut tally = Tally::new();
     for seed in start.first_seed..start.first_seed + start.racks {
         let mut random = Random::new(seed);
         let n = match start.sizes {
@@ -192,7 +171,7 @@ fn from_racks(start: &Start) -> Result<Tally, String> {
 
 /// Fans of all sizes: the drop that opens them, and random changes after it.
 fn from_fans() -> Result<Tally, String> {
-    let mut tally = Tally::default();
+    let mut tally = Tally::new();
     for (level, most) in FANS {
         for ribs in 1..=most {
             let seed = 0x1800_0000 + 100 * u64::from(level) + ribs as u64;
@@ -200,27 +179,29 @@ fn from_fans() -> Result<Tally, String> {
             let mut random = Random::new(seed);
             let (rack, opening) = fan(&mut random, level, ribs);
             let mut twin = Twin::start(rack);
-            tally.note(&twin.change(&opening).map_err(told)?);
+            let opened = step(&mut twin, &opening, &mut tally).map_err(told)?;
+            same("number of the opening", opened.number, 0).map_err(told)?;
             walk(&mut random, &mut twin, 5, 40, &mut tally).map_err(told)?;
         }
     }
+    // Those of the largest fan, all of whose ribs rise.
+    let most = (tally.most_draws, tally.most_falls);
+    same("most draws and falls of a fan", most, (48, 296))?;
     Ok(tally)
 }
 
-fn on_damaged() -> Result<Tally, String> {
-    let mut tally = Tally::default();
+fn on_damaged(name: &str, damage: Damage) -> Result<Tally, String> {
+    let mut tally = Tally::new();
     let (number, first) = DAMAGED;
-    for (name, damage) in DAMAGES {
-        for seed in first..first + number {
-            let mut random = Random::new(seed);
-            let n = racks::size(&mut random);
-            let kind = random.pick(&[Kind::Reached, Kind::Random, Kind::Dense]);
-            let rack = racks::rack(&mut random, n, kind);
-            let asked = Asked::any(&mut random, &rack, 45);
-            let bytes = damaged(&mut random, &rack, damage);
-            let told = |why| format!("damage to {name}, seed {seed:#x}, {n} boards: {why}");
-            tally.note(&both::change(&bytes, &asked).map_err(told)?);
-        }
+    for seed in first..first + number {
+        let mut random = Random::new(seed);
+        let n = racks::size(&mut random);
+        let kind = random.pick(&[Kind::Reached, Kind::Random, Kind::Dense]);
+        let rack = racks::rack(&mut random, n, kind);
+        let asked = Asked::any(&mut random, &rack, 45);
+        let bytes = damaged(&mut random, &rack, damage);
+        let told = |why| format!("damage to {name}, seed {seed:#x}, {n} boards: {why}");
+        tally.note(&both::change(&bytes, &asked).map_err(told)?);
     }
     Ok(tally)
 }
@@ -235,7 +216,7 @@ fn all_sorts() -> Result<Tally, String> {
     damaged[7] ^= 1;
     let mut buffers = vec![sound, damaged];
     buffers.extend(WRONG_LENGTHS.map(|length| noise(length, 3)));
-    let mut tally = Tally::default();
+    let mut tally = Tally::new();
     for buffer in &buffers {
         for code in [0, 1, 2, 3, 256, 257, u32::MAX] {
             for a in ENDS {

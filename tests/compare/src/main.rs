@@ -3,15 +3,16 @@
 //!
 //! `compare rack` tries making, the audit and the queries, `compare change`
 //! the changes, `compare run` the running of trace texts, and `compare program
-//! PATH` what the program for traces prints. Each prints how many of each kind
-//! it tried. The first difference ends it: seed and details are printed, and
-//! the exit status says so. `compare text FAMILY PLACE` prints the text of one
-//! case of `compare run`.
+//! PATH` what the program for traces prints. Each prints how often each outcome
+//! came, and fails if one that can come never did. The first difference ends it:
+//! seed and details are printed, and the exit status says so. `compare text
+//! FAMILY PLACE` prints the text of one case of `compare run`.
 
 mod asked;
 mod both;
 mod cases;
 mod change_part;
+mod change_tally;
 mod damage;
 mod fans;
 mod program_part;
@@ -20,6 +21,7 @@ mod racks;
 mod run_part;
 mod run_tally;
 mod runs;
+mod tally;
 mod texts;
 
 use std::env;
@@ -45,7 +47,7 @@ fn main() -> ExitCode {
     match verdict {
         Ok(()) => ExitCode::SUCCESS,
         Err(why) => {
-            println!("compare: a difference: {why}");
+            println!("compare: {why}");
             ExitCode::FAILURE
         }
     }

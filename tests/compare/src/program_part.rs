@@ -2,6 +2,7 @@
 //! input.
 
 use crate::runs::shown;
+use crate::tally::Seen;
 use crate::texts::{families, stated, Case};
 use crate::Verdict;
 use reference::{program, RACK_BYTES, RECORD_SPACE, TEXT_LIMIT};
@@ -23,16 +24,23 @@ const LONG: [usize; 8] = [
 type Pieces = Option<usize>;
 
 pub fn all(path: &str) -> Verdict {
-    let mut tried = 0;
-    let mut bad = 0;
+    let mut numbers = Seen::of("number", [0, 2, 4, 5]);
     for (name, input, pieces) in inputs() {
         let wanted = program(&input);
-        bad += u64::from(wanted.starts_with(b"(bad"));
-        tried += 1;
+        numbers.note(number(&wanted));
         one(path, input, pieces, &wanted).map_err(|why| format!("{name}: {why}"))?;
     }
-    println!("{tried} inputs of the program, {bad} of them bad: equal");
-    Ok(())
+    println!(
+        "{} inputs of the program, by {numbers}: equal",
+        numbers.sum()
+    );
+    numbers.all_came()
+}
+
+/// The number that is printed, 0 with a record.
+fn number(printed: &[u8]) -> u32 {
+    let after = printed.strip_prefix(b"(bad ");
+    after.map_or(0, |after| u32::from(after[0] - b'0'))
 }
 
 /// The texts with their names.
@@ -76,6 +84,9 @@ fn one(path: &str, input: Vec<u8>, pieces: Pieces, wanted: &[u8]) -> Verdict {
         let [came, wanted] = [&output.stdout[..], wanted].map(shown);
         return Err(format!("it printed {came}\nwanted {wanted}"));
     }
+    if !output.stderr.is_empty() {
+        return Err(format!("it said {}", shown(&output.stderr)));
+    }
     match output.status.code() {
         Some(0) => Ok(()),
         _ => Err(format!("it ended with {}", output.status)),
@@ -87,6 +98,7 @@ fn fed(path: &str, input: Vec<u8>, pieces: Pieces) -> std::io::Result<Output> {
     let mut child = Command::new(path)
         .stdin(Stdio::piped())
         .stdout(Stdio::piped())
+        .stderr(Stdio::piped())
         .spawn()?;
     let stdin = child.stdin.take().expect("a pipe");
     let feeder = spawn(move || feed(stdin, &input, pieces));

@@ -20,7 +20,7 @@ pub fn all() -> Verdict {
         of_family(&stage, &family, &mut tally).map_err(|why| format!("{}: {why}", family.name))?;
     }
     tally.print();
-    tally.nothing_missed()
+    tally.all_came()
 }
 
 fn as_stated(stage: &Stage) -> Verdict {

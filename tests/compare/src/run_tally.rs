@@ -2,6 +2,7 @@
 //! reached, and the words of the texts.
 
 use crate::runs::Ran;
+use crate::tally::Seen;
 use crate::texts::Case;
 use crate::Verdict;
 use reference::checks::texts::first_bad_line;
@@ -9,20 +10,19 @@ use reference::{grammar, RACK_BYTES, RECORD_SPACE, TEXT_LIMIT};
 use std::str::from_utf8;
 
 pub struct Tally {
-    runs: u64,
-    numbers: [u64; 6],
+    numbers: Seen<u32>,
     /// Runs that meet two numbers at once, the lower first.
-    at_once: [[u64; 6]; 6],
+    at_once: Seen<(u32, u32)>,
     /// Change lines of records: accepted, and refused by their number.
     done: u64,
-    refused: [u64; 13],
+    refused: Seen<u32>,
     /// Pairs at the end by their level, and runs by the highest level that a
     /// board came to.
-    pairs: [u64; 4],
-    tops: [u64; 4],
+    pairs: Seen<u32>,
+    tops: Seen<i32>,
     /// Lines of texts by the number of their words, and words by their digits.
-    words: [u64; 129],
-    digits: [u64; 10],
+    words: Seen<usize>,
+    digits: Seen<u32>,
     /// The most draws, falls and pairs of a change.
     most: [u32; 3],
     longest: usize,
@@ -30,16 +30,16 @@ pub struct Tally {
 
 impl Default for Tally {
     fn default() -> Tally {
+        let two = |lower| (lower + 1..6).map(move |higher| (lower, higher));
         Tally {
-            runs: 0,
-            numbers: [0; 6],
-            at_once: [[0; 6]; 6],
+            numbers: Seen::of("number", 0..6),
+            at_once: Seen::of("at once", (1..6).flat_map(two)),
             done: 0,
-            refused: [0; 13],
-            pairs: [0; 4],
-            tops: [0; 4],
-            words: [0; 129],
-            digits: [0; 10],
+            refused: Seen::of("number", 8..=12),
+            pairs: Seen::of("level", 0..=3),
+            tops: Seen::of("highest level", 0..=3),
+            words: Seen::of("lines by their words", 0..=128),
+            digits: Seen::of("words by their digits", 1..=10),
             most: [0; 3],
             longest: 0,
         }
@@ -48,14 +48,14 @@ impl Default for Tally {
 
 impl Tally {
     pub fn note(&mut self, case: &Case, ran: &Ran) {
-        self.runs += 1;
-        self.numbers[ran.outcome.number as usize] += 1;
+        self.numbers.note(ran.outcome.number);
         if ran.outcome.number != 0 {
             return self.note_numbers(case);
         }
         self.longest = self.longest.max(ran.outcome.length);
-        if let Ok(top) = usize::try_from(case.top) {
-            self.tops[top] += 1;
+        // Of most texts it isn't known.
+        if case.top >= 0 {
+            self.tops.note(case.top);
         }
         for line in from_utf8(&ran.record).expect("digits and letters").lines() {
             self.note_line(line);
@@ -67,7 +67,7 @@ impl Tally {
         let met = met(case);
         for (place, &lower) in met.iter().enumerate() {
             for &higher in &met[place + 1..] {
-                self.at_once[lower][higher] += 1;
+                self.at_once.note((lower, higher));
             }
         }
     }
@@ -82,70 +82,46 @@ impl Tally {
                 *most = figure.max(*most);
             }
         } else if line.starts_with("(refused") {
-            self.refused[figures[0] as usize] += 1;
+            self.refused.note(figures[0]);
         } else if line.starts_with("(pair") {
-            self.pairs[figures[2] as usize] += 1;
+            self.pairs.note(figures[2]);
         }
     }
 
     fn note_text(&mut self, text: &[u8]) {
         let trace = grammar::read(text).expect("a text that was run");
         for step in trace.steps {
-            self.words[step.words.len()] += 1;
+            self.words.note(step.words.len());
             for word in step.words {
-                let digits = word.checked_ilog10().unwrap_or(0);
-                self.digits[digits as usize] += 1;
+                self.digits.note(1 + word.checked_ilog10().unwrap_or(0));
             }
         }
     }
 
     pub fn print(&self) {
         let [draws, falls, pairs] = self.most;
-        let refused = &self.refused[8..];
-        println!(
-            "{} runs in all, by their number {:?}",
-            self.runs, self.numbers
-        );
-        let at_once: u64 = self.at_once.iter().flatten().sum();
-        println!("two numbers met at once {at_once} times");
-        println!(
-            "{} changes done, refused with 8 to 12 {refused:?}",
-            self.done
-        );
-        println!(
-            "runs by the highest level reached {:?}, pairs at the end by level {:?}",
-            self.tops, self.pairs
-        );
+        println!("{} runs in all, by {}", self.numbers.sum(), self.numbers);
+        println!("two numbers {}", self.at_once);
+        println!("{} changes done; refused by {}", self.done, self.refused);
+        println!("runs by {}; pairs at the end by {}", self.tops, self.pairs);
         println!(
             "most draws of a change {draws}, falls {falls}, pairs {pairs}; longest record {} bytes",
             self.longest
         );
-        println!("words by their digits {:?}", self.digits);
+        println!("{}", self.digits);
     }
 
     /// An error if something that can come never did.
-    pub fn nothing_missed(&self) -> Verdict {
-        // The first of each is that of this number.
-        let kinds: [(&str, usize, &[u64]); 6] = [
-            ("number", 0, &self.numbers),
-            ("refused with", 8, &self.refused[8..]),
-            ("a pair at level", 0, &self.pairs),
-            ("a run up to level", 0, &self.tops),
-            ("a line whose number of words is", 0, &self.words),
-            ("a word whose number of digits is", 1, &self.digits),
-        ];
-        for (name, first, kind) in kinds {
-            if let Some(place) = kind.iter().position(|&times| times == 0) {
-                return Err(format!("never met: {name} {}", first + place));
-            }
-        }
-        for lower in 1..6 {
-            for higher in lower + 1..6 {
-                if self.at_once[lower][higher] == 0 {
-                    return Err(format!("never met: {lower} and {higher} at once"));
-                }
-            }
-        }
+    pub fn all_came(&self) -> Verdict {
+        self.numbers.all_came()?;
+        self.at_once.all_came()?;
+        let of_refused = |why| format!("refused changes: {why}");
+        self.refused.all_came().map_err(of_refused)?;
+        let of_pairs = |why| format!("pairs at the end: {why}");
+        self.pairs.all_came().map_err(of_pairs)?;
+        self.tops.all_came()?;
+        self.words.all_came()?;
+        self.digits.all_came()?;
         match self.most.iter().all(|&most| most >= 10) {
             true => Ok(()),
             false => Err("never met: draws, falls and pairs of two digits".into()),
@@ -154,7 +130,7 @@ impl Tally {
 }
 
 /// The numbers that a run meets, each looked at by itself.
-fn met(case: &Case) -> Vec<usize> {
+fn met(case: &Case) -> Vec<u32> {
     let met = [
         case.rack != RACK_BYTES,
         case.text.len() > TEXT_LIMIT,
@@ -162,7 +138,8 @@ fn met(case: &Case) -> Vec<usize> {
         first_bad_line(&case.text).is_some(),
         boards(&case.text).is_some_and(|n| n == 0 || n > 256),
     ];
-    (1..6).filter(|&number| met[number - 1]).collect()
+    let numbers = (1..).zip(met);
+    numbers.filter(|(_, met)| *met).map(|(k, _)| k).collect()
 }
 
 /// The board number that a text's first line names.

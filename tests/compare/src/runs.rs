@@ -1,7 +1,7 @@
 //! A run made on the core and on the independent program, with equal answers,
 //! equal racks and equal record spaces, or a word on what differs.
 
-use crate::both::{guarded, same, same_bytes};
+use crate::both::{first_difference, guarded, same, same_bytes};
 use crate::rack_part::noise;
 use crate::texts::Case;
 use crate::Verdict;
@@ -58,7 +58,8 @@ impl Stage {
 
 /// A run of the core: its answer, and the bytes of both buffers after it.
 fn core_run(rack: &[u8], text: &[u8], space: &[u8]) -> Result<(Outcome, Vec<u8>, Vec<u8>), String> {
-    let lent = [text, TEMPTING[text.len() % TEMPTING.len()]].concat();
+    let tempting = TEMPTING[text.len() % TEMPTING.len()];
+    let lent = [text, tempting].concat();
     let run = |rack: &mut [u8]| {
         guarded(space, |space| {
             pairing::run(rack, &lent[..text.len()], space)
@@ -66,23 +67,21 @@ fn core_run(rack: &[u8], text: &[u8], space: &[u8]) -> Result<(Outcome, Vec<u8>,
     };
     let (inner, rack) = guarded(rack, run)?;
     let (answer, space) = inner?;
-    let pairing::Outcome {
-        number,
-        line,
-        length,
-    } = answer;
+    let stays = lent.starts_with(text) && lent.ends_with(tempting);
+    same("the text lent stays", stays, true)?;
     let outcome = Outcome {
-        number: number.0,
-        line,
-        length,
+        number: answer.number.0,
+        line: answer.line,
+        length: answer.length,
     };
     Ok((outcome, rack, space))
 }
 
 /// An error naming the first byte of the record space that differs, and what
-/// stands around it.
+/// stands around it, or the lengths if these differ.
 fn same_space(core: &[u8], wanted: &[u8]) -> Verdict {
-    let Some(at) = (core != wanted).then(|| differs(core, wanted)) else {
+    same("length of the record space", core.len(), wanted.len())?;
+    let Some(at) = first_difference(core, wanted) else {
         return Ok(());
     };
     let around = |bytes: &[u8]| {
@@ -93,14 +92,6 @@ fn same_space(core: &[u8], wanted: &[u8]) -> Verdict {
     Err(format!(
         "record space from byte {at} on: core {core}, wanted {wanted}"
     ))
-}
-
-fn differs(core: &[u8], wanted: &[u8]) -> usize {
-    let same = core
-        .iter()
-        .zip(wanted)
-        .take_while(|(one, other)| one == other);
-    same.count()
 }
 
 /// A text as a message shows it.

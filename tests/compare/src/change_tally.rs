@@ -1,0 +1,115 @@
+//! What the changes came to: the numbers, those met at once, and the levels
+//! reached.
+
+use crate::asked::Asked;
+use crate::tally::Seen;
+use crate::Verdict;
+use reference::{Answer, Rack};
+
+/// What was tried.
+pub struct Tally {
+    pub numbers: Seen<u32>,
+    /// Changes of a sound rack that two numbers fit, the lower first. 10 and 11
+    /// ask for other codes, neither has a code that 7 fits, and a link that is
+    /// there has two boards.
+    at_once: Seen<(u32, u32)>,
+    /// The accepted changes: their codes, and the highest level then reached.
+    codes: Seen<u32>,
+    tops: Seen<i32>,
+    draws: u64,
+    pub most_draws: u32,
+    pub most_falls: u32,
+}
+
+impl Tally {
+    pub fn new() -> Tally {
+        let of_seven = [(7, 8), (7, 9), (7, 12)];
+        let of_eight = [(8, 9), (8, 11), (8, 12)];
+        let others = [(9, 11), (9, 12), (10, 12), (11, 12)];
+        let at_once = of_seven.into_iter().chain(of_eight).chain(others);
+        Tally {
+            numbers: Seen::of("number", [0, 1, 6, 7, 8, 9, 10, 11, 12]),
+            at_once: Seen::of("at once", at_once),
+            codes: Seen::of("code", [1, 2]),
+            tops: Seen::of("highest level", -1..=3),
+            draws: 0,
+            most_draws: 0,
+            most_falls: 0,
+        }
+    }
+
+    pub fn note(&mut self, answer: &Answer) {
+        self.numbers.note(answer.number);
+        self.draws += u64::from(answer.draws);
+        self.most_draws = self.most_draws.max(answer.draws);
+        self.most_falls = self.most_falls.max(answer.falls);
+    }
+
+    /// A change of a sound rack, before which these numbers fit it.
+    pub fn note_on(&mut self, rack: &Rack, asked: &Asked, fit: &[u32], answer: &Answer) {
+        self.note(answer);
+        for (place, &lower) in fit.iter().enumerate() {
+            for &higher in &fit[place + 1..] {
+                self.at_once.note((lower, higher));
+            }
+        }
+        if answer.number == 0 {
+            self.codes.note(asked.code);
+            self.tops
+                .note(rack.level.iter().copied().max().unwrap_or(-1));
+        }
+    }
+
+    /// Prints a part and adds it.
+    pub fn add(&mut self, what: &str, part: &Tally) {
+        part.print(what);
+        self.numbers.add(&part.numbers);
+        self.at_once.add(&part.at_once);
+        self.codes.add(&part.codes);
+        self.tops.add(&part.tops);
+        self.draws += part.draws;
+        self.most_draws = self.most_draws.max(part.most_draws);
+        self.most_falls = self.most_falls.max(part.most_falls);
+    }
+
+    fn print(&self, what: &str) {
+        println!(
+            "{} changes {what}, by {}; {} draws, most draws {} and falls {}: equal",
+            self.numbers.sum(),
+            self.numbers,
+            self.draws,
+            self.most_draws,
+            self.most_falls
+        );
+    }
+
+    /// Prints the whole; an error if something that can come never did.
+    pub fn all_came(&self) -> Verdict {
+        self.print("in all");
+        println!("two numbers {}", self.at_once);
+        println!("accepted by {}; {}", self.codes, self.tops);
+        self.numbers.all_came()?;
+        self.at_once.all_came()?;
+        self.codes.all_came()?;
+        self.tops.all_came()
+    }
+}
+
+/// The numbers from 7 on that fit a change of a sound rack, each looked at by
+/// itself.
+pub fn fitting(rack: &Rack, asked: &Asked) -> Vec<u32> {
+    let Asked { code, a, b, words } = asked;
+    let (a, b) = (*a as usize, *b as usize);
+    let outside = a >= rack.n || b >= rack.n;
+    let there = !outside && rack.linked(a, b);
+    let fit = [
+        ![1, 2].contains(code),
+        outside,
+        a == b,
+        *code == 1 && there,
+        *code == 2 && !there,
+        words.len() < rack.n / 2,
+    ];
+    let numbers = (7..).zip(fit);
+    numbers.filter(|(_, fits)| *fits).map(|(k, _)| k).collect()
+}
