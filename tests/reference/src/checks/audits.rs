@@ -3,27 +3,25 @@
 
 use super::makers::sound_rack;
 use super::random::Random;
-use super::{holds, same, shape, Tally, Verdict};
+use super::{came, holds, same, shape, Tally, Verdict};
 use crate::{audit, change, level, linked, mate, Answer, Rack, RACK_BYTES};
 
 const SEEDS: u64 = 40_000;
 
 pub fn audits_agree(_: &mut Tally) -> Verdict {
-    let (mut yes, mut no) = (0, 0);
+    let mut said = [0; 2];
     for seed in 0..SEEDS {
         let mut random = Random::new(0xa0d1_0000 + seed);
         let bytes = damaged(&mut random);
-        let said = agreed(&bytes).map_err(|why| format!("audit of seed {seed}: {why}"))?;
-        if said {
-            yes += 1;
-        } else {
-            no += 1;
-        }
+        let yes = agreed(&bytes).map_err(|why| format!("audit of seed {seed}: {why}"))?;
+        said[usize::from(yes)] += 1;
     }
+    came("audit", &said, &[0, 1])?;
     for byte in [0, 1, 2, 127, 254, 255] {
-        agreed(&[byte; RACK_BYTES])?;
-        no += 1;
+        same("audit of equal bytes", agreed(&[byte; RACK_BYTES])?, false)?;
+        said[0] += 1;
     }
+    let [no, yes] = said;
     Ok(format!("{yes} audits yes, {no} audits no: ok"))
 }
 

@@ -234,7 +234,11 @@ fn p13() -> Result<u64, String> {
     same("text length", text.len(), 16_384)?;
     let read = run(&mut rack, text.as_bytes(), &mut record);
     same("16,384 bytes", (read.number, read.line), (0, 0))?;
-    holds("the record has some length", read.length > 20)?;
+    // All changes but the last bring too few words.
+    let refused = "(refused 12)\n".repeat(text.lines().count() - 2);
+    let wanted = format!("(rack (boards 4))\n{refused}{LAST_LINES}");
+    let written = String::from_utf8_lossy(&record[..read.length]);
+    same("record", written.as_ref(), wanted.as_str())?;
     let text = text_of_length(TEXT_LIMIT + 1);
     let over = run(&mut rack, text.as_bytes(), &mut record);
     same(
@@ -245,6 +249,13 @@ fn p13() -> Result<u64, String> {
     same("printed", program(text.as_bytes()), b"(bad 2 0)\n".to_vec())?;
     Ok(0)
 }
+
+/// The record of an add that makes the only pair, and the lines after it.
+const LAST_LINES: &str = "\
+(done (draws 1) (falls 0) (pairs 1))
+(pair (0 1) (level 0))
+(end (pairs 1))
+";
 
 /// A text that fits the grammar and is this long.
 pub fn text_of_length(length: usize) -> String {

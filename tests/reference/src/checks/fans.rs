@@ -95,7 +95,7 @@ pub fn fans(tally: &mut Tally) -> Verdict {
     }
     same("draws of the largest fan", tally.most_draws, 48)?;
     same("falls of the largest fan", tally.most_falls, 296)?;
-    Ok(format!("{} from fans: ok", tally.since(&earlier)))
+    Ok(format!("{} from fans: ok", tally.since(&earlier, &[0])?))
 }
 
 /// The drop with words that make every rib draw its second own board.
@@ -115,10 +115,7 @@ fn opened(fan: &Fan, tally: &mut Tally) -> Result<(), String> {
         fan.core().len() / 2 + fan.ribs,
     )?;
     holds("the bytes after it", bytes == fan.after().to_bytes())?;
-    tally.changes += 1;
-    tally.draws += u64::from(answer.draws);
-    tally.most_draws = tally.most_draws.max(answer.draws);
-    tally.most_falls = tally.most_falls.max(answer.falls);
+    tally.note(&answer);
     Ok(())
 }
 

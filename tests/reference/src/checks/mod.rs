@@ -18,15 +18,17 @@ pub mod traces;
 pub mod walk;
 pub mod wanderings;
 
+use crate::Answer;
+
 /// What a check gives: the line to print, or what failed.
 pub type Verdict = Result<String, String>;
 
 /// What the changes of all checks came to.
 #[derive(Clone, Debug, Default)]
 pub struct Tally {
-    /// Changes asked for, and those among them that were refused.
+    /// Changes asked for, and how often each number came of them.
     pub changes: u64,
-    pub refused: u64,
+    pub numbers: [u64; 13],
     /// Draws of all changes, and the most draws and falls of one.
     pub draws: u64,
     pub most_draws: u32,
@@ -36,14 +38,29 @@ pub struct Tally {
 }
 
 impl Tally {
-    /// One line about the changes tried since an earlier tally.
-    pub fn since(&self, earlier: &Tally) -> String {
-        format!(
-            "{} changes, {} refused, {} draws",
-            self.changes - earlier.changes,
-            self.refused - earlier.refused,
-            self.draws - earlier.draws
-        )
+    /// A change that was asked for.
+    pub fn note(&mut self, answer: &Answer) {
+        self.changes += 1;
+        self.numbers[answer.number as usize] += 1;
+        self.draws += u64::from(answer.draws);
+        self.most_draws = self.most_draws.max(answer.draws);
+        self.most_falls = self.most_falls.max(answer.falls);
+    }
+
+    /// One line about the changes tried since an earlier tally, or an error if
+    /// one of these numbers never came of them.
+    pub fn since(&self, earlier: &Tally, numbers: &[usize]) -> Verdict {
+        let mut since = self.numbers;
+        for (times, before) in since.iter_mut().zip(earlier.numbers) {
+            *times -= before;
+        }
+        came("number", &since, numbers)?;
+        let refused: u64 = since[1..].iter().sum();
+        let changes = self.changes - earlier.changes;
+        let draws = self.draws - earlier.draws;
+        Ok(format!(
+            "{changes} changes, {refused} refused, {draws} draws"
+        ))
     }
 }
 
@@ -53,6 +70,14 @@ pub fn same<T: PartialEq + std::fmt::Debug>(what: &str, came: T, wanted: T) -> R
         return Ok(());
     }
     Err(format!("{what}: wanted {wanted:?}, came {came:?}"))
+}
+
+/// An error naming the first of these that never came, given how often each did.
+pub fn came(what: &str, times: &[u64], these: &[usize]) -> Result<(), String> {
+    match these.iter().find(|&&one| times[one] == 0) {
+        Some(one) => Err(format!("never met: {what} {one}")),
+        None => Ok(()),
+    }
 }
 
 /// An error saying what doesn't hold.
@@ -87,5 +112,6 @@ pub fn all(print: &mut dyn FnMut(&str)) -> Result<Tally, String> {
         let line = check(&mut tally)?;
         print(&line);
     }
+    came("a new pair at level", &tally.standing, &[0, 1, 2, 3])?;
     Ok(tally)
 }

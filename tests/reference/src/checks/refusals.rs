@@ -3,7 +3,7 @@
 
 use super::bench::text_of_length;
 use super::book::Book;
-use super::{holds, same, Tally, Verdict};
+use super::{came, holds, same, Tally, Verdict};
 use crate::{audit, change, level, linked, make, mate, run};
 use crate::{Answer, Outcome, RACK_BYTES, RECORD_SPACE, TEXT_LIMIT};
 
@@ -107,7 +107,7 @@ pub fn changes_turned_back(tally: &mut Tally) -> Verdict {
             }
         }
     }
-    let tried = tally.since(&earlier);
+    let tried = tally.since(&earlier, &[0, 1, 6, 7, 8, 9, 10, 11, 12])?;
     Ok(format!(
         "changes turned back by 1 and 6 to 12 ({tried}): ok"
     ))
@@ -125,18 +125,16 @@ fn mixtures(
         let told = format!("code {code}, boards {a} {b}, words {words:?}");
         let mut rack = buffer.to_vec();
         let answer = change(&mut rack, code, a, b, words);
-        tally.changes += 1;
+        tally.note(&answer);
         let number = fixed.unwrap_or_else(|| {
             let book = Book::open(buffer);
             book.number_of(code, a, b, words.len())
         });
         same(&told, answer.number, number)?;
         if number != 0 {
-            tally.refused += 1;
             same(&told, answer, Answer::refused(number))?;
             holds(&format!("{told}: nothing is written"), rack == buffer)?;
         } else {
-            tally.draws += u64::from(answer.draws);
             holds(&format!("{told}: a rack is written"), rack != buffer)?;
         }
     }
@@ -161,19 +159,24 @@ pub fn runs_turned_back(_: &mut Tally) -> Verdict {
         ("(rack (boards 4294967296))\n", 4, 1),
         ("(rack (boards 4))\n(add (9 1) (draws 0 0))\n", 0, 0),
     ];
-    let mut tried = 0;
+    let mut numbers = [0; 6];
     for (text, number, line) in texts {
         for rack in [0, 9_991, 9_992, 9_993] {
             for record in [0, 65_535, 65_536, 65_537, 70_000] {
                 let first = first_number(rack, number, record);
                 let line = if first == 4 { line } else { 0 };
                 one_run(rack, text, record, first, line)?;
-                tried += 1;
+                numbers[first as usize] += 1;
             }
         }
     }
+    came("number", &numbers, &[0, 1, 2, 3, 4, 5])?;
+    let tried: u64 = numbers.iter().sum();
     Ok(format!("{tried} runs turned back by 1 to 5 or not: ok"))
 }
+
+/// The record of the only text that is run.
+const RECORD: &[u8] = b"(rack (boards 4))\n(refused 8)\n(end (pairs 0))\n";
 
 fn first_number(rack: usize, text: u32, record: usize) -> u32 {
     let rack = if rack == RACK_BYTES { 0 } else { 1 };
@@ -191,20 +194,20 @@ fn one_run(rack: usize, text: &str, record: usize, first: u32, line: usize) -> R
     let outcome = run(&mut lent, text.as_bytes(), &mut space);
     let start: String = text.chars().take(60).collect();
     let told = format!("run of {start:?} with rack {rack}, record space {record}");
-    if first == 0 {
-        same(&told, (outcome.number, outcome.line), (0, 0))?;
-        let past = &noise(record)[outcome.length..];
-        return holds(
-            &format!("{told}: bytes past it stay"),
-            &space[outcome.length..] == past,
-        );
-    }
+    let written: &[u8] = if first == 0 { RECORD } else { b"" };
     let wanted = Outcome {
         number: first,
         line,
-        length: 0,
+        length: written.len(),
     };
     same(&told, outcome, wanted)?;
-    let untouched = lent == noise(rack) && space == noise(record);
-    holds(&format!("{told}: nothing is written"), untouched)
+    let (start, past) = space.split_at(written.len());
+    holds(&format!("{told}: the record"), start == written)?;
+    let stays = past == &noise(record)[written.len()..];
+    holds(&format!("{told}: bytes past the record stay"), stays)?;
+    let mut left = noise(rack);
+    if first == 0 {
+        make(&mut left, 4);
+    }
+    holds(&format!("{told}: the rack"), lent == left)
 }

@@ -1,7 +1,7 @@
 //! Every sound rack of few boards, with every change and words for each place.
 
 use super::walk::Walk;
-use super::{holds, shape, Tally, Verdict};
+use super::{holds, same, shape, Tally, Verdict};
 use crate::{sound, Rack};
 
 pub fn every_small_rack(tally: &mut Tally) -> Verdict {
@@ -12,12 +12,23 @@ pub fn every_small_rack(tally: &mut Tally) -> Verdict {
         for pairing in pairings(n) {
             found += racks_with(&pairing, tally)?;
         }
-        racks.push(found.to_string());
+        racks.push(found);
     }
-    let found = racks.join(", ");
-    let tried = tally.since(&earlier);
+    // One is without pairs. A pair has 4 levels and 2 owners, and of three or four
+    // boards each idle one may be linked to either end. Of the two pairs of four
+    // boards, linked in 4 places, either end may be the owner on equal levels.
+    let one_pair = |choices: u64, idle| choices * 4 * 2 * 4_u64.pow(idle);
+    let two_pairs = 3 * 2 * 2 * (4 * 3_u64.pow(4) + 12 * 2_u64.pow(4));
+    let all = vec![
+        1,
+        1 + one_pair(1, 0),
+        1 + one_pair(3, 1),
+        1 + one_pair(6, 2) + two_pairs,
+    ];
+    same("sound racks of 1, 2, 3, 4 boards", &racks, &all)?;
+    let tried = tally.since(&earlier, &[0, 9, 10, 11])?;
     Ok(format!(
-        "all {found} sound racks of 1, 2, 3, 4 boards, every change ({tried}): ok"
+        "all {racks:?} sound racks of 1, 2, 3, 4 boards, every change ({tried}): ok"
     ))
 }
 

@@ -128,17 +128,20 @@ pub fn damaged_lines(_: &mut Tally) -> Verdict {
 /// The bad line as line 2, 3, 4 and 7, with and without a line feed and with
 /// worse lines after it.
 fn at_each_line(line: &str) -> Result<usize, String> {
+    let mut tried = 0;
     for before in [0, 1, 2, 5] {
         let mut text = String::from("(rack (boards 0))\n");
         text += &"(drop (9 9) (draws 12 0))\n".repeat(before);
         text += line;
         if !line.is_empty() {
             expect_bad(&text, before + 2)?;
+            tried += 1;
         }
         expect_bad(&format!("{text}\n"), before + 2)?;
         expect_bad(&format!("{text}\n(add (0 1) (draws 0 0))\n\n"), before + 2)?;
+        tried += 2;
     }
-    Ok(12)
+    Ok(tried)
 }
 
 fn expect_bad(text: &str, line: usize) -> Result<(), String> {

@@ -3,31 +3,30 @@
 
 use super::random::Random;
 use super::texts::first_bad_line;
-use super::{holds, same, Tally, Verdict};
+use super::{came, holds, same, Tally, Verdict};
 use crate::{change, level, make, mate, run, Outcome};
 use crate::{RACK_BYTES, RECORD_SPACE, TEXT_LIMIT};
 
 const SEEDS: u64 = 6_000;
 
 pub fn random_texts(tally: &mut Tally) -> Verdict {
-    let (mut read, mut bad) = (0, 0);
+    let mut numbers = [0; 6];
     for seed in 0..SEEDS {
         let mut random = Random::new(0x7e87_0000 + seed);
         let mut text = random_text(&mut random);
         for _ in 0..random.pick(&[0, 0, 1, 1, 1, 2, 5]) {
             damage(&mut random, &mut text);
         }
-        let fits = one_text(&text, tally).map_err(|why| format!("text of seed {seed}: {why}"))?;
-        if fits {
-            read += 1;
-        } else {
-            bad += 1;
-        }
+        let number = one_text(&text, tally).map_err(|why| format!("text of seed {seed}: {why}"))?;
+        numbers[number as usize] += 1;
     }
+    came("number", &numbers, &[0, 2, 4, 5])?;
+    let (read, bad) = (numbers[0], SEEDS - numbers[0]);
     Ok(format!("{read} random texts run, {bad} turned back: ok"))
 }
 
-fn one_text(text: &[u8], tally: &mut Tally) -> Result<bool, String> {
+/// The number that a run of this text comes to, if all is as it must be.
+fn one_text(text: &[u8], tally: &mut Tally) -> Result<u32, String> {
     let (mut rack, mut record) = (vec![7; RACK_BYTES], vec![8; RECORD_SPACE + 5]);
     let outcome = run(&mut rack, text, &mut record);
     let wanted = wanted(text, tally);
@@ -43,7 +42,7 @@ fn one_text(text: &[u8], tally: &mut Tally) -> Result<bool, String> {
             let untouched = rack.iter().all(|&byte| byte == 7);
             holds("the rack stays", untouched)?;
             holds("the record stays", record.iter().all(|&byte| byte == 8))?;
-            return Ok(false);
+            return Ok(number);
         }
     };
     same("outcome", (outcome.number, outcome.line), (0, 0))?;
@@ -58,7 +57,7 @@ fn one_text(text: &[u8], tally: &mut Tally) -> Result<bool, String> {
         past.iter().all(|&byte| byte == 8),
     )?;
     holds("the rack is that of the changes", rack == last)?;
-    Ok(true)
+    Ok(0)
 }
 
 /// What a run must come to: the number and line that turn it back, or the
@@ -96,9 +95,7 @@ fn told(rack: &mut [u8], line: &str, tally: &mut Tally) -> String {
     let numbers = numbers(line);
     let code = if line.contains("add") { 1 } else { 2 };
     let answer = change(rack, code, numbers[0], numbers[1], &numbers[2..]);
-    tally.changes += 1;
-    tally.draws += u64::from(answer.draws);
-    tally.refused += u64::from(answer.number != 0);
+    tally.note(&answer);
     match answer.number {
         0 => format!(
             "(done (draws {}) (falls {}) (pairs {}))\n",

@@ -121,11 +121,7 @@ impl Walk {
     }
 
     fn count(&self, tally: &mut Tally, answer: &Answer, new_pairs: &[(u32, u32)]) {
-        tally.changes += 1;
-        tally.refused += u64::from(answer.number != 0);
-        tally.draws += u64::from(answer.draws);
-        tally.most_draws = tally.most_draws.max(answer.draws);
-        tally.most_falls = tally.most_falls.max(answer.falls);
+        tally.note(answer);
         for &(u, y) in new_pairs {
             let level = usize::from(self.rack[8 + u as usize]);
             if facts::mate(&self.rack, u) == y {
