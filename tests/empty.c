@@ -23,12 +23,12 @@ static void same(const char *what, uint64_t got, uint64_t wanted)
     exit(1);
 }
 
-/* The number and the figures of a call, and that the bytes stay. */
-static void refused(uint32_t number, uint32_t wanted, uint64_t figures)
+/* The number of a call and one of its figures, and that the bytes stay. */
+static void refused(uint32_t number, uint32_t wanted, uint64_t figure)
 {
     calls++;
     same("number", number, wanted);
-    same("figures", figures, 0);
+    same("figure", figure, 0);
     same("rack", memcmp(rack, rack_before, sizeof rack) == 0, 1);
     same("space", memcmp(space, space_before, sizeof space) == 0, 1);
 }
@@ -38,7 +38,9 @@ static void change(uint8_t *bytes, size_t len, const uint32_t *words, size_t cou
     uint32_t draws = UNWRITTEN, falls = UNWRITTEN, pairs = UNWRITTEN;
     uint32_t number = pairing_change(bytes, len, PAIRING_DROP, 0, 1, words, count, &draws, &falls, &pairs);
 
-    refused(number, wanted, (uint64_t)draws + falls + pairs);
+    same("draws", draws, 0);
+    same("falls", falls, 0);
+    refused(number, wanted, pairs);
 }
 
 static void run(uint8_t *bytes, size_t len, const uint8_t *text, size_t text_len, uint8_t *room, size_t room_len, uint32_t wanted)
@@ -47,7 +49,8 @@ static void run(uint8_t *bytes, size_t len, const uint8_t *text, size_t text_len
     uint32_t number = pairing_run(bytes, len, text, text_len, room, room_len, &line, &length);
 
     /* An empty text has its first bad line at 1. */
-    refused(number, wanted, length + (number == PAIRING_BAD_LINE ? line - 1 : line));
+    same("line", line, wanted == PAIRING_BAD_LINE ? 1 : 0);
+    refused(number, wanted, length);
 }
 
 static void with(void *any)

@@ -86,14 +86,21 @@ static void on_stack(void (*call)(void))
     swapcontext(&here, &there);
 }
 
+/* What a figure must be. */
+static void same(const char *what, uint32_t got, uint32_t wanted)
+{
+    if (got == wanted)
+        return;
+    printf("stack: %s: %" PRIu32 ", wanted %" PRIu32 "\n", what, got, wanted);
+    exit(1);
+}
+
 /* A call that must come to this number. */
 static void expect(void (*call)(void), uint32_t wanted)
 {
+    number = UINT32_MAX;
     on_stack(call);
-    if (number != wanted) {
-        printf("stack: a call gave %" PRIu32 ", wanted %" PRIu32 "\n", number, wanted);
-        exit(1);
-    }
+    same("the number of a call", number, wanted);
 }
 
 /* A repeatable source of numbers. */
@@ -138,7 +145,7 @@ static void expect_change(uint32_t its_code, uint32_t v, uint32_t w, uint32_t wa
 static void change(void)
 {
     static uint32_t lower[ALL_EDGES], upper[ALL_EDGES];
-    uint32_t v, w, k, edge = 0;
+    uint32_t v, w, k, edge = 0, drawing = 0, falling = 0;
 
     for (v = 0; v < MOST; v++)
         for (w = v + 1; w < MOST; w++, edge++) {
@@ -154,9 +161,13 @@ static void change(void)
     memcpy(densest, rack, sizeof rack);
     for (k = 0; k < 8 * MOST; k++) {
         v = k % MOST;
-        if (pairing_mate(rack, len, v, &w) == PAIRING_OK && w != PAIRING_FREE)
+        if (pairing_mate(rack, len, v, &w) == PAIRING_OK && w != PAIRING_FREE) {
             expect_change(PAIRING_DROP, v, w, PAIRING_OK);
+            drawing += draws != 0;
+            falling += falls != 0;
+        }
     }
+    same("whether drops draw and fall", drawing != 0 && falling != 0, 1);
     memcpy(rack, densest, sizeof rack);
     expect_change(0, 0, 1, PAIRING_BAD_CODE);
     expect_change(PAIRING_ADD, 0, MOST, PAIRING_NO_VERTEX);
@@ -175,8 +186,10 @@ static void change(void)
 static void audit(void)
 {
     expect(call_audit, PAIRING_OK);
+    same("the audit of the densest rack", yes, 1);
     rack[sizeof rack - 1] ^= 1;
     expect(call_audit, PAIRING_OK);
+    same("the audit of it with a bit turned", yes, 0);
     len--;
     expect(call_audit, PAIRING_BAD_LENGTH);
 }
@@ -223,15 +236,23 @@ static void write_trace(uint32_t vertices, uint32_t few)
     }
 }
 
+/* The run of such a trace, all of whose changes are accepted. */
+static void expect_run(uint32_t vertices, uint32_t few)
+{
+    write_trace(vertices, few);
+    memset(space, 0, sizeof space);
+    expect(call_run, PAIRING_OK);
+    same("whether a change was made", strstr((char *)space, "(done ") != NULL, 1);
+    same("whether a change was refused", strstr((char *)space, "(refused ") != NULL, 0);
+}
+
 static void run(void)
 {
     uint32_t few;
 
     for (few = 4; few <= 40; few++) {
-        write_trace(few, few);
-        expect(call_run, PAIRING_OK);
-        write_trace(MOST, few);
-        expect(call_run, PAIRING_OK);
+        expect_run(few, few);
+        expect_run(MOST, few);
     }
     text_len--;
     expect(call_run, PAIRING_BAD_LINE);
@@ -284,9 +305,10 @@ int main(void)
     for (k = 0; k < sizeof parts / sizeof *parts; k++) {
         asked = parts[k].asked;
         used = depth(parts[k].calls) - empty;
-        within = within && used <= parts[k].limit;
+        /* A call that takes none wasn't made there. */
+        within = within && used > 0 && used <= parts[k].limit;
         printf("stack of pairing_%-7s %6zu bytes, at most %zu\n", parts[k].name, used, parts[k].limit);
     }
-    printf("the stack: %s what the header says\n", within ? "within" : "MORE than");
+    printf("the stack: %s what the header says\n", within ? "within" : "NOT within");
     return within ? 0 : 1;
 }

@@ -1,17 +1,10 @@
 //! The names and values of this crate are those of `bindings/c/pairing.h`.
 
 use pairing::Number;
+use std::collections::BTreeMap;
 
 const HEADER: &str = include_str!("../../c/pairing.h");
-
-/// The value that the header gives to a name without its prefix.
-fn defined(name: &str) -> u32 {
-    let start = format!("#define PAIRING_{name} ");
-    let mut lines = HEADER.lines();
-    let value = lines.find_map(|line| line.strip_prefix(&start)?.split_whitespace().next());
-    let value = value.unwrap_or_else(|| panic!("the header has no PAIRING_{name}"));
-    value.parse().expect("a value in digits")
-}
+const EXPORTED: &str = include_str!("../src/exported.rs");
 
 /// Each name with what this crate has under it.
 macro_rules! named {
@@ -19,25 +12,53 @@ macro_rules! named {
     ($($name:ident)*) => { [$((stringify!($name), pairing::$name as u32)),*] };
 }
 
-#[test]
-fn numbers() {
-    let all = named![Number: OK BAD_LENGTH LONG_TEXT SHORT_SPACE BAD_LINE BAD_VERTEX_COUNT UNSOUND
-        BAD_CODE NO_VERTEX SAME_VERTEX EDGE_PRESENT EDGE_ABSENT TOO_FEW_WORDS];
-    for (name, number) in all {
-        assert_eq!(number.0, defined(name), "{name}");
-        let told = format!("{number:?}");
-        assert!(
-            told.starts_with(&format!("{name} ({}: ", number.0)),
-            "{told}"
-        );
-    }
+/// The header's names without their prefix, with their values: all but the name
+/// that keeps it from being read twice.
+fn defined() -> BTreeMap<&'static str, u32> {
+    let names = HEADER.lines().filter_map(|line| {
+        let mut words = line.strip_prefix("#define PAIRING_")?.split_whitespace();
+        let name = words.next().filter(|&name| name != "H")?;
+        let value = words.next().expect("a value");
+        Some((name, value.parse().expect("a value in digits")))
+    });
+    names.collect()
+}
+
+fn numbers() -> [(&'static str, Number); 13] {
+    named![Number: OK BAD_LENGTH LONG_TEXT SHORT_SPACE BAD_LINE BAD_VERTEX_COUNT UNSOUND
+        BAD_CODE NO_VERTEX SAME_VERTEX EDGE_PRESENT EDGE_ABSENT TOO_FEW_WORDS]
 }
 
 #[test]
-fn other_constants() {
-    for (name, value) in named![RACK_BYTES MOST_VERTICES TEXT_LIMIT RECORD_SPACE STACK_RUN
-        STACK_CALL FREE ADD DROP]
-    {
-        assert_eq!(value, defined(name), "{name}");
+fn same_constants() {
+    let others = named![RACK_BYTES MOST_VERTICES TEXT_LIMIT RECORD_SPACE STACK_RUN STACK_CALL FREE
+        ADD DROP];
+    let numbers = numbers().map(|(name, number)| (name, number.0));
+    let all: BTreeMap<&str, u32> = others.into_iter().chain(numbers).collect();
+    assert_eq!(all, defined());
+}
+
+#[test]
+fn numbers_tell_their_names() {
+    for (name, number) in numbers() {
+        let told = format!("{number:?}");
+        let start = format!("{name} ({}: ", number.0);
+        assert!(told.starts_with(&start), "{told}");
     }
+}
+
+/// The names of the functions, which stand before a bracket.
+fn functions(text: &str) -> Vec<&str> {
+    let words = text.split(|letter: char| !letter.is_alphanumeric() && !"_(".contains(letter));
+    let calls = words
+        .filter_map(|word| word.split_once('('))
+        .map(|call| call.0);
+    calls.filter(|name| name.starts_with("pairing_")).collect()
+}
+
+#[test]
+fn same_functions() {
+    let exported = functions(EXPORTED);
+    assert_eq!(exported, functions(HEADER));
+    assert_eq!(exported.len(), 7);
 }
