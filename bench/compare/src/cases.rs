@@ -53,6 +53,41 @@ pub fn with_edges(edges: usize) -> RackBytes {
     rack
 }
 
+/// A rack for each vertex that has a mate on it, with the drop of that pair.
+pub struct Parted {
+    pub racks: Vec<(RackBytes, Change)>,
+    pub words: Vec<u32>,
+}
+
+impl Parted {
+    /// The pairs of 256 vertices with so many edges.
+    pub fn of(edges: usize) -> Parted {
+        let rack = with_edges(edges);
+        let mut random = Random(edges as u64);
+        let words = (0..128).map(|_| random.bits() as u32).collect();
+        let drop = |a: usize| {
+            let mate = mate(&rack, a);
+            let change = Change {
+                code: 2,
+                a: a as u32,
+                b: mate as u32,
+                words_at: 0,
+            };
+            (mate < 256).then_some((rack, change))
+        };
+        Parted {
+            racks: (0..256).filter_map(drop).collect(),
+            words,
+        }
+    }
+}
+
+/// The mate of a vertex, 65,535 if it is free.
+fn mate(rack: &RackBytes, v: usize) -> usize {
+    let at = 264 + 2 * v;
+    usize::from(u16::from_le_bytes([rack[at], rack[at + 1]]))
+}
+
 /// A series of accepted changes from an empty rack: it grows to the middle and
 /// then stays about as it is.
 pub struct Series {
@@ -148,9 +183,9 @@ impl Walk {
             return (1, random.below(n) as u32, random.below(n) as u32);
         }
         let v = random.below(n);
-        let mate = u16::from_le_bytes([self.rack[264 + 2 * v], self.rack[265 + 2 * v]]);
-        if random.below(2) == 0 && usize::from(mate) < n {
-            return (2, v as u32, u32::from(mate));
+        let mate = mate(&self.rack, v);
+        if random.below(2) == 0 && mate < n {
+            return (2, v as u32, mate as u32);
         }
         let (a, b) = self.edges[random.below(self.edges.len())];
         (2, a, b)

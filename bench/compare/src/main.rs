@@ -4,9 +4,9 @@
 //! makes one kind of call so many times on one side alone, for a tool that
 //! counts instructions, and prints how many calls, or changes of runs, that
 //! was. SIDE is core, tuned or bare (tuned without the audit before a change);
-//! KIND is audit (SIZE: links of 256 boards), direct, before (the audits of
-//! the racks of direct), series, or a kind of text to run: run, refused or
-//! words (SIZE: boards).
+//! KIND is audit or parted (the drop of a pair; SIZE: links of 256 boards),
+//! direct, before (the audits of the racks of direct), series, or a kind of
+//! text to run: run, refused, words or line (SIZE: boards).
 
 mod cases;
 mod once;

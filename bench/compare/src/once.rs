@@ -1,20 +1,21 @@
 //! One kind of call, so many times, on one side alone: for counting its
-//! instructions. All that is made beforehand is the same for any number of
-//! calls, so that a run with none can be taken off.
+//! instructions.
 
-use crate::cases::{with_edges, Series};
+use crate::cases::{with_edges, Parted, Series};
 use crate::side::Side;
 use crate::texts::Text;
 use std::hint::black_box;
 use tuned::{RACK_BYTES, RECORD_SPACE};
 
 /// Makes the calls and gives how many calls, or changes of runs, they were.
-/// The size is the edges of an audit's rack, or else the vertices.
+/// The size is the edges of a rack of 256 vertices for an audit or a parted
+/// pair, or else the vertices.
 pub fn once(side: Side, kind: &str, size: usize, calls: usize) -> Result<usize, String> {
     match kind {
         "audit" => Ok(audits(side, size, calls)),
         "direct" => direct(side, size, calls),
         "before" => before(side, size, calls),
+        "parted" => parted(side, size, calls),
         "series" => series(side, size, calls),
         _ => match Text::of(kind, size) {
             Some(text) => Ok(runs(side, &text, calls)),
@@ -64,6 +65,20 @@ fn before(side: Side, n: usize, calls: usize) -> Result<usize, String> {
     measured(|| {
         for (rack, _) in &series.racks[..calls] {
             assert!(side.audit(black_box(rack)), "a sound rack");
+        }
+    });
+    Ok(calls)
+}
+
+/// Drops of pairs, each on the same rack.
+fn parted(side: Side, edges: usize, calls: usize) -> Result<usize, String> {
+    let Parted { mut racks, words } = Parted::of(edges);
+    if calls > racks.len() {
+        return Err(format!("at most {} drops", racks.len()));
+    }
+    measured(|| {
+        for (rack, change) in &mut racks[..calls] {
+            black_box(side.change(rack, change, &words));
         }
     });
     Ok(calls)

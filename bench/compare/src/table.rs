@@ -25,7 +25,7 @@ const SIDES: [Side; 3] = [Side::Core, Side::Tuned, Side::Bare];
 pub fn print() {
     let heads = ["core", "tuned", "ratio", "bare"].map(|head| format!("{head:>10}"));
     println!("{:26}{}", "nanoseconds a call", heads.concat());
-    for edges in [256, 2_000, 4_000, DENSEST] {
+    for edges in [0, 256, 1_000, 2_000, 4_000, 16_000, DENSEST] {
         let name = format!("audit, 256 / {edges} links");
         line(&name, audits(&with_edges(edges)));
     }
@@ -43,7 +43,11 @@ pub fn print() {
         line(&name, runs(&text));
     }
     println!("bare: the tuned change without its audit; a run audits no change");
-    println!("refused: a run in which four of five changes are refused; words: one with 128 words of ten digits a change");
+    println!("refused: a run in which four of five changes are refused; words: one with 128 words of ten digits a change;");
+    println!("line: a whole run of a text of one line");
+    if cfg!(not(target_feature = "popcnt")) {
+        println!("tuned without popcnt: start it in bench/ to have that");
+    }
 }
 
 fn line(name: &str, times: Times) {

@@ -1,4 +1,5 @@
-//! The trace texts that are run: each as long as a text may be.
+//! The trace texts that are run: each as long as a text may be, but for one
+//! that has no change.
 
 use crate::cases::Series;
 use crate::side::Change;
@@ -6,36 +7,42 @@ use crate::side::Change;
 /// The most words of a line.
 const MOST_WORDS: usize = 128;
 
-/// A text and how many changes it has.
+/// A text and how many changes it has; the one that has none counts for one.
 pub struct Text {
     bytes: String,
     pub changes: usize,
 }
 
 /// The texts that are measured, by their kind and the number of boards.
-pub const TEXTS: [(&str, usize); 6] = [
+pub const TEXTS: [(&str, usize); 7] = [
     ("run", 16),
     ("run", 64),
     ("run", 128),
     ("run", 256),
     ("refused", 64),
     ("words", 256),
+    ("line", 256),
 ];
 
 impl Text {
     /// The text of a kind: "run" has accepted changes with words of one digit,
     /// as many as they must bring; "refused" has four refused changes after each
-    /// accepted one; "words" has accepted changes with 128 words of ten digits.
+    /// accepted one; "words" has accepted changes with 128 words of ten digits;
+    /// "line" has its first line alone.
     pub fn of(kind: &str, n: usize) -> Option<Text> {
+        let mut text = Text {
+            bytes: format!("(rack (boards {n}))\n"),
+            changes: 0,
+        };
         let lines = match kind {
             "run" => accepted,
             "refused" => mostly_refused,
             "words" => with_long_words,
+            "line" => {
+                text.changes = 1;
+                return Some(text);
+            }
             _ => return None,
-        };
-        let mut text = Text {
-            bytes: format!("(rack (boards {n}))\n"),
-            changes: 0,
         };
         // More changes than there is room for would only take time to make.
         let length = tuned::TEXT_LIMIT / (20 + 2 * (n / 2));

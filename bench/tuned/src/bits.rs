@@ -13,6 +13,10 @@ pub fn remove(row: &mut Row, v: u8) {
     row[usize::from(v >> 6)] &= !(1 << (v & 63));
 }
 
+pub fn size(row: &Row) -> u32 {
+    row.iter().map(|word| word.count_ones()).sum()
+}
+
 /// The lowest vertex of a set.
 pub fn first(row: &Row) -> Option<u8> {
     for (k, &word) in row.iter().enumerate() {
@@ -32,11 +36,17 @@ fn vertex(k: usize, word: u64) -> u8 {
 #[inline(always)]
 pub fn each(row: &Row, mut visit: impl FnMut(u8)) {
     for (k, &word) in row.iter().enumerate() {
-        let mut left = word;
-        while left != 0 {
-            visit(vertex(k, left));
-            left &= left - 1;
-        }
+        each_of(k, word, &mut visit);
+    }
+}
+
+/// Goes through word k of a set.
+#[inline(always)]
+pub fn each_of(k: usize, word: u64, mut visit: impl FnMut(u8)) {
+    let mut left = word;
+    while left != 0 {
+        visit(vertex(k, left));
+        left &= left - 1;
     }
 }
 

@@ -1,6 +1,6 @@
 //! One change on a rack, turned back by the first number that fits.
 
-use crate::audit::audit;
+use crate::audit::pairs_if_sound;
 use crate::layout::{linked, vertices, RackBytes, MATES_AT, RANKS_AT};
 use crate::moves::{self, Tally, Words};
 
@@ -32,22 +32,34 @@ impl Answer {
 }
 
 /// Code 1 adds the edge a-b and code 2 drops it. The rack may be any bytes;
-/// it is audited first.
+/// it is audited first, and the audit finds how many pairs it holds.
 pub fn change(rack: &mut RackBytes, code: u32, a: u32, b: u32, words: &[u32]) -> Answer {
-    if !audit(rack) {
-        return Answer::refused(6);
+    match pairs_if_sound(rack) {
+        Some(pairs) => change_of(rack, code, a, b, words, |_| pairs),
+        None => Answer::refused(6),
     }
-    change_sound(rack, code, a, b, words)
 }
 
 /// The same on a rack that is known to be sound, without the audit.
 pub fn change_sound(rack: &mut RackBytes, code: u32, a: u32, b: u32, words: &[u32]) -> Answer {
-    let (a, b) = match allowed(rack, code, a, b, words.len()) {
+    change_of(rack, code, a, b, words, pairs)
+}
+
+#[inline(always)]
+fn change_of(
+    rack: &mut RackBytes,
+    code: u32,
+    a: u32,
+    b: u32,
+    words: &[u32],
+    pairs: impl Fn(&RackBytes) -> u32,
+) -> Answer {
+    let ends = match allowed(rack, code, a, b, words.len()) {
         Ok(ends) => ends,
         Err(number) => return Answer::refused(number),
     };
     let pairs = pairs(rack);
-    Answer::accepted(play(rack, code, (a, b), Lent(words.iter()), pairs))
+    Answer::accepted(play(rack, code, ends, Lent(words.iter()), pairs))
 }
 
 /// An allowed change on a sound rack that holds so many pairs.

@@ -1,7 +1,7 @@
 //! The edges of a rack with few of them, one by one.
 
 use crate::bits::{self, Row};
-use crate::layout::{edges, owner_bits, phi, rank, row, RackBytes};
+use crate::layout::{edges, owner_bits, word, RackBytes, MATES_AT, PHI_AT, RANKS_AT, ROWS_AT};
 
 /// The bits that no phi below its threshold has.
 pub const AT_THRESHOLD: u32 = 0xc0f0_fcff;
@@ -20,49 +20,83 @@ pub const COUNTED: [u32; 8] = [
 
 /// Whether no owner stands below the other end, no edge has two owners or joins
 /// a vertex to itself, and the edge number and all counts are right and below
-/// their thresholds. An edge counts for both its ends from its owner's rank
-/// upward, since that is the higher one.
-pub fn edges_are_right(rack: &RackBytes, n: usize, ownable: &[Row; 8]) -> bool {
-    let mut counts = [0; 256];
-    let (mut found, mut outside, mut twice) = (0, 0, false);
-    for v in 0..n {
-        let v = v as u8;
-        let row = row(rack, v);
-        if row[0] | row[1] | row[2] | row[3] == 0 {
+/// their thresholds.
+pub fn edges_are_right(rack: &RackBytes, ownable: &[Row; 8]) -> bool {
+    let mut tally = Tally {
+        counts: [0; 256],
+        found: 0,
+        outside: 0,
+        twice: 0,
+    };
+    let groups = rack[RANKS_AT..MATES_AT].chunks_exact(8);
+    let rows = rack[ROWS_AT..].chunks_exact(256);
+    for (group, (ranks, rows)) in groups.zip(rows).enumerate() {
+        if word(ranks) == 0 {
+            tally.unranked(rows);
             continue;
         }
-        let class = usize::from(rank(rack, v) & 7);
-        for k in 0..4 {
-            outside |= row[k] & !ownable[class][k];
+        for (k, (&rank, row)) in ranks.iter().zip(rows.chunks_exact(32)).enumerate() {
+            let row = [0, 8, 16, 24].map(|at| word(&row[at..at + 8]));
+            if row[0] | row[1] | row[2] | row[3] != 0 {
+                let class = usize::from(rank & 7);
+                let v = (8 * group + k) as u8;
+                tally.add(rack, v, &row, &ownable[class], COUNTED[class]);
+            }
         }
-        let (size, owners) = count(rack, v, &row, COUNTED[class], &mut counts);
-        found += size;
-        twice |= owners;
     }
-    let right = found == u32::from(edges(rack)) && outside == 0 && !twice;
-    right && counts_are_right(rack, &counts)
+    tally.is_right(rack)
 }
 
-/// Adds the edges of one row to the counts; how many they are, and whether one
-/// has two owners. A row that names its own vertex shows in the same way.
-fn count(rack: &RackBytes, v: u8, row: &Row, one: u32, counts: &mut [u32; 256]) -> (u32, bool) {
-    let (mut size, mut owners) = (0_u32, 0);
-    bits::each(row, |w| {
-        counts[usize::from(w)] = counts[usize::from(w)].wrapping_add(one);
-        owners |= owner_bits(rack, w, v);
-        size += 1;
-    });
-    let own = &mut counts[usize::from(v)];
-    *own = own.wrapping_add(size.wrapping_mul(one));
-    (size, (owners >> (v & 7)) & 1 != 0)
+/// What the edges come to.
+struct Tally {
+    counts: [u32; 256],
+    found: u32,
+    /// Edges that their owner may not own.
+    outside: u64,
+    /// Whether an edge has two owners.
+    twice: u8,
 }
 
-/// Whether these counts stand in the rack, each below its threshold.
-fn counts_are_right(rack: &RackBytes, counts: &[u32; 256]) -> bool {
-    let mut wrong = 0;
-    for (v, &count) in counts.iter().enumerate() {
-        let stored = phi(rack, v as u8);
-        wrong |= stored ^ count | stored & AT_THRESHOLD;
+impl Tally {
+    /// The rows of eight vertices of rank 0, which own nothing.
+    fn unranked(&mut self, rows: &[u8]) {
+        let words = rows.chunks_exact(8).map(word);
+        self.outside |= words.fold(0, |all, word| all | word);
     }
-    wrong == 0
+
+    /// Adds the edges of one row. An edge counts for both its ends from its
+    /// owner's rank upward, since that is the higher one. A row that names its
+    /// own vertex shows as an edge with two owners.
+    #[inline(always)]
+    fn add(&mut self, rack: &RackBytes, v: u8, row: &Row, ownable: &Row, one: u32) {
+        let (mut size, mut owners) = (0_u32, 0);
+        for k in 0..4 {
+            self.outside |= row[k] & !ownable[k];
+        }
+        bits::each(row, |w| {
+            let count = &mut self.counts[usize::from(w)];
+            *count = count.wrapping_add(one);
+            owners |= owner_bits(rack, w, v);
+            size += 1;
+        });
+        let own = &mut self.counts[usize::from(v)];
+        *own = own.wrapping_add(size.wrapping_mul(one));
+        self.found += size;
+        self.twice |= owners >> (v & 7) & 1;
+    }
+
+    /// Whether all this stands in the rack, each count below its threshold.
+    fn is_right(&self, rack: &RackBytes) -> bool {
+        let mut wrong = 0;
+        for (count, stored) in self
+            .counts
+            .iter()
+            .zip(rack[PHI_AT..ROWS_AT].chunks_exact(4))
+        {
+            let stored = u32::from_le_bytes([stored[0], stored[1], stored[2], stored[3]]);
+            wrong |= stored ^ count | stored & AT_THRESHOLD;
+        }
+        let edges = u32::from(edges(rack));
+        wrong == 0 && self.found == edges && self.outside == 0 && self.twice == 0
+    }
 }

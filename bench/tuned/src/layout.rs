@@ -73,6 +73,15 @@ pub fn set_mate(rack: &mut RackBytes, v: u8, mate: u16) {
     set_two(rack, MATES_AT + 2 * usize::from(v), mate);
 }
 
+/// The mates of all vertices.
+pub fn mates(rack: &RackBytes) -> [u16; 256] {
+    let mut mates = [FREE; 256];
+    for (mate, two) in mates.iter_mut().zip(rack[MATES_AT..PHI_AT].chunks_exact(2)) {
+        *mate = u16::from_le_bytes([two[0], two[1]]);
+    }
+    mates
+}
+
 /// The four counts of a vertex, phi at j in byte j.
 pub fn phi(rack: &RackBytes, v: u8) -> u32 {
     let at = PHI_AT + 4 * usize::from(v);
@@ -128,7 +137,7 @@ pub fn owner_bits(rack: &RackBytes, v: u8, w: u8) -> u8 {
 }
 
 /// Whether v owns the edge v-w.
-fn owns(rack: &RackBytes, v: u8, w: u8) -> bool {
+pub fn owns(rack: &RackBytes, v: u8, w: u8) -> bool {
     let (at, bit) = place(v, w);
     rack[at] & bit != 0
 }
@@ -149,20 +158,9 @@ pub fn disown(rack: &mut RackBytes, v: u8, w: u8) {
     rack[at] &= !bit;
 }
 
-/// Which of the eight vertices of a group (0 to 31) own their edge to u, a
-/// bit each. A group without owners is told by one look at all its bytes.
-pub fn owners_in_group(rack: &RackBytes, u: u8, group: u8) -> u32 {
+/// Whether one of the eight vertices of a group (0 to 31) owns its edge to u.
+pub fn any_owner(rack: &RackBytes, u: u8, group: u8) -> bool {
     let at = ROWS_AT + 256 * usize::from(group & 31) + usize::from(u >> 3);
-    let mut any = 0;
-    for k in 0..8 {
-        any |= rack[at + 32 * k];
-    }
-    if any & (1 << (u & 7)) == 0 {
-        return 0;
-    }
-    let mut owners = 0;
-    for k in 0..8 {
-        owners |= u32::from((rack[at + 32 * k] >> (u & 7)) & 1) << k;
-    }
-    owners
+    let any = (0..8).fold(0, |any, k| any | rack[at + 32 * k]);
+    any & (1 << (u & 7)) != 0
 }

@@ -32,6 +32,7 @@ pub fn run(rack: &mut RackBytes, text: &[u8], space: &mut [u8]) -> Outcome {
             }
         }
     };
+    let room = space.len();
     make(rack, trace.vertices as u16);
     let mut record = Record::start(space);
     record.put(trace.first_line);
@@ -44,7 +45,7 @@ pub fn run(rack: &mut RackBytes, text: &[u8], space: &mut [u8]) -> Outcome {
     Outcome {
         number: 0,
         line: 0,
-        length: record.length,
+        length: room - record.left(),
     }
 }
 
@@ -65,7 +66,7 @@ fn wanted(text: &[u8], space: usize) -> Result<Trace<'_>, (u32, usize)> {
 
 /// One change of a run; the pairs held are kept from change to change.
 fn one(rack: &mut RackBytes, step: &Step, pairs: &mut u32) -> Answer {
-    match allowed(rack, step.code, step.a, step.b, step.words as usize) {
+    match allowed(rack, step.code, step.a, step.b, step.words) {
         Err(number) => Answer::refused(number),
         Ok(ends) => {
             let tally = play(rack, step.code, ends, step.drawn, *pairs);

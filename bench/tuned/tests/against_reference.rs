@@ -212,6 +212,19 @@ fn changes_from_large_random_racks() {
     }
 }
 
+/// Drops on dense racks, half of them of pairs: long rows are handed over, and
+/// nearly all vertices stand on one level.
+#[test]
+fn drops_on_dense_racks() {
+    for seed in 0..60 {
+        let mut random = Random::new(0x64_0000 + seed);
+        let n = random.between(66, 256);
+        let mut rack = racks::rack(&mut random, n, Kind::Dense);
+        let told = format!("dense rack of {n} vertices, seed {seed}");
+        changes(&mut random, &mut rack, 16, 0, &told);
+    }
+}
+
 #[test]
 fn damaged_racks_are_turned_back() {
     for seed in 0..1_000 {

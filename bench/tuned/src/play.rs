@@ -1,0 +1,236 @@
+//! The moves that follow when a vertex rises or a pair is parted.
+//!
+//! Two facts carry most of the speed. A vertex owns all its edges to lower
+//! ranks once it has handed over those to its own rank, so its out-row is the
+//! list from which it draws. And phi at a level less the size of the out-row
+//! says how many edges a rise still has to take from other owners, so that
+//! the search for them ends early or does not begin.
+
+use crate::bits::{self, Row, EMPTY};
+use crate::layout::{
+    any_owner, counted_from, disown, mate, own, owns, phi, rank, row, set_mate, set_phi, set_rank,
+    set_row, RackBytes, FREE, ONES, REACHED,
+};
+use crate::moves::{Tally, Words};
+use crate::ranks::{on_rank, ranked_within};
+
+/// A change in play. Pending vertices stand in one set a rank, so that none
+/// has to be looked for.
+pub struct Play<'a, W> {
+    rack: &'a mut RackBytes,
+    words: W,
+    pending: [Row; 4],
+    pub tally: Tally,
+}
+
+impl<W: Words> Play<'_, W> {
+    pub fn start(rack: &mut RackBytes, words: W, pairs: u32) -> Play<'_, W> {
+        Play {
+            rack,
+            words,
+            pending: [EMPTY; 4],
+            tally: Tally::start(pairs),
+        }
+    }
+
+    /// The pending vertices of a rank from 1 to 4. The mask spares the test
+    /// of the index.
+    fn pending(&mut self, rank: u8) -> &mut Row {
+        &mut self.pending[usize::from(rank.wrapping_sub(1) & 3)]
+    }
+
+    /// The pair a-b of this rank is parted, and both pend.
+    pub fn part(&mut self, a: u8, b: u8, rank: u8) {
+        for v in [a, b] {
+            set_mate(self.rack, v, FREE);
+            bits::insert(self.pending(rank), v);
+        }
+        self.tally.pairs -= 1;
+    }
+
+    /// Before a vertex rises it leaves its mate, who then pends; one that
+    /// pends itself no longer does.
+    fn leave(&mut self, v: u8) {
+        let rank = rank(self.rack, v);
+        if rank == 0 {
+            return;
+        }
+        let mate = mate(self.rack, v);
+        if mate == FREE {
+            return bits::remove(self.pending(rank), v);
+        }
+        set_mate(self.rack, mate as u8, FREE);
+        bits::insert(self.pending(rank), mate as u8);
+        self.tally.pairs -= 1;
+    }
+
+    pub fn rise_and_draw(&mut self, u: u8, to: u8) {
+        self.leave(u);
+        let candidates = self.rise(u, to);
+        self.draw(u, to, candidates);
+    }
+
+    /// Vertex u rises to a rank and becomes the owner of its edges to all
+    /// lower ones; the answer is how many these are. Each such neighbour no
+    /// longer counts u at the levels below the rank.
+    fn rise(&mut self, u: u8, to: u8) -> u32 {
+        let (from, counts) = (rank(self.rack, u), phi(self.rack, u));
+        let below = (counts >> (8 * (to - 1))) & 255;
+        let passed = ONES >> (32 - 8 * u32::from(to));
+        let uncounted = counted_from(from) & passed;
+        let mut owned = 0;
+        let rack = &mut *self.rack;
+        bits::each(&row(rack, u), |w| {
+            set_phi(rack, w, phi(rack, w) - uncounted);
+            owned += 1;
+        });
+        if owned < below {
+            self.take_over(u, to, below - owned);
+        }
+        set_rank(self.rack, u, to);
+        set_phi(self.rack, u, counts & !(passed * 255));
+        below
+    }
+
+    /// Takes so many edges to vertices below a rank from their owners, none of
+    /// which stands below u.
+    fn take_over(&mut self, u: u8, to: u8, missing: u32) {
+        let passed = ONES >> (32 - 8 * u32::from(to));
+        let least = rank(self.rack, u).max(1);
+        let mut missing = missing;
+        for group in 0..32 {
+            let mut marks = ranked_within(self.rack, group, least, to);
+            if marks == 0 || !any_owner(self.rack, u, group) {
+                continue;
+            }
+            while marks != 0 {
+                let w = 8 * group + (marks.trailing_zeros() / 8) as u8;
+                marks &= marks - 1;
+                if !owns(self.rack, w, u) {
+                    continue;
+                }
+                disown(self.rack, w, u);
+                own(self.rack, u, w);
+                let uncounted = counted_from(rank(self.rack, w)) & passed;
+                set_phi(self.rack, w, phi(self.rack, w) - uncounted);
+                missing -= 1;
+                if missing == 0 {
+                    return;
+                }
+            }
+        }
+    }
+
+    /// Vertex u at a rank draws one of the candidates in its out-row, which
+    /// rises to that rank and becomes its mate.
+    fn draw(&mut self, u: u8, at: u8, candidates: u32) {
+        let place = self.words.next() % candidates;
+        let y = bits::nth(&row(self.rack, u), place);
+        self.leave(y);
+        self.rise(y, at);
+        set_mate(self.rack, u, u16::from(y));
+        set_mate(self.rack, y, u16::from(u));
+        self.tally.draws += 1;
+        self.tally.pairs += 1;
+    }
+
+    /// While any vertex pends, takes the lowest number of the highest rank.
+    /// None comes to pend above the rank in hand.
+    pub fn settle(&mut self, highest: u8) {
+        for rank in (1..=highest).rev() {
+            while let Some(v) = bits::first(self.pending(rank)) {
+                bits::remove(self.pending(rank), v);
+                self.take(v, rank);
+            }
+        }
+    }
+
+    /// A pending vertex hands over and then draws if it has neighbours enough
+    /// below its rank, and otherwise falls.
+    fn take(&mut self, v: u8, at: u8) {
+        let mut row = row(self.rack, v);
+        let size = bits::size(&row);
+        let handed = if size >= MANY {
+            self.hand_over_many(v, at, &mut row)
+        } else {
+            self.hand_over_few(v, at, &mut row)
+        };
+        let below = size - handed;
+        if below >= 1 << (2 * (at - 1)) {
+            self.draw(v, at, below);
+        } else {
+            self.fall(v, at, &row, below);
+        }
+    }
+
+    /// Vertex v gives its edges within its rank to their other ends, and they go
+    /// out of its row; the answer is how many these are.
+    #[inline(always)]
+    fn hand_over_few(&mut self, v: u8, at: u8, row: &mut Row) -> u32 {
+        let mut handed = 0;
+        bits::each(&row.clone(), |w| {
+            if rank(self.rack, w) == at {
+                own(self.rack, w, v);
+                bits::remove(row, w);
+                handed += 1;
+            }
+        });
+        if handed != 0 {
+            set_row(self.rack, v, row);
+        }
+        handed
+    }
+
+    /// The same where there are many edges: all ends on the rank are found
+    /// beforehand.
+    fn hand_over_many(&mut self, v: u8, at: u8, row: &mut Row) -> u32 {
+        let mut handed = 0;
+        for (k, word) in row.iter_mut().enumerate() {
+            let within = *word & on_rank(self.rack, k, at);
+            bits::each_of(k, within, |w| own(self.rack, w, v));
+            *word &= !within;
+            handed += within.count_ones();
+        }
+        set_row(self.rack, v, row);
+        handed
+    }
+
+    /// Vertex v falls by one rank. All in its out-row count it once more at
+    /// the level left; if some thereby reach the threshold, the row is then gone
+    /// through in order, and those rise that still reach it when their turn
+    /// comes, for an earlier rise may have lowered their count.
+    fn fall(&mut self, v: u8, from: u8, row: &Row, below: u32) {
+        let level = 8 * (u32::from(from) - 1);
+        set_rank(self.rack, v, from - 1);
+        self.tally.falls += 1;
+        if from > 1 {
+            bits::insert(self.pending(from - 1), v);
+        }
+        if below == 0 {
+            return;
+        }
+        set_phi(self.rack, v, phi(self.rack, v) | below << level);
+        let reached = REACHED & (255 << level);
+        let mut any = 0;
+        bits::each(row, |w| {
+            let counts = phi(self.rack, w) + (1 << level);
+            set_phi(self.rack, w, counts);
+            any |= counts;
+        });
+        if any & reached != 0 {
+            self.scan(row, reached, from);
+        }
+    }
+
+    fn scan(&mut self, row: &Row, reached: u32, to: u8) {
+        bits::each(row, |w| {
+            if phi(self.rack, w) & reached != 0 {
+                self.rise_and_draw(w, to);
+            }
+        });
+    }
+}
+
+/// From so many edges in a row on it pays to find all vertices of a rank before
+/// looking at the edges.
+const MANY: u32 = 64;
