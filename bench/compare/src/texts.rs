@@ -21,7 +21,7 @@ pub const TEXTS: [(&str, usize); 7] = [
     ("run", 256),
     ("refused", 64),
     ("words", 256),
-    ("line", 256),
+    ("line", 4),
 ];
 
 impl Text {
