@@ -111,7 +111,7 @@ fn add(rack: &mut [u8], a: usize, b: usize, words: &[u32]) -> Tally
     ensures { λ r. ⌜ Ended (added base (now (words .entry)) a b (read (now (rack .entry)))) (now (rack .exit)) r ⌝ }
 {
     edges::add_edge(rack, a, b);
-    let edges::Reached::At(i, u) = edges::riser(rack, a, b) else {
+    let edges::Reached::At { i, u } = edges::riser(rack, a, b) else {
         return Tally::new();
     };
     promote_and_settle(rack, u, i, words)

@@ -13,7 +13,7 @@ ghost use Rattle.edges.specs.Steps.{Countable, edgeCounted, reachedBy};
 
 // The level that a count reaches, with the vertex that rises to it, or that none is reached.
 pub enum Reached {
-    At(usize, usize),
+    At { i: usize, u: usize },
     Never,
 }
 
@@ -96,10 +96,10 @@ pub fn riser(rack: &[u8], a: usize, b: usize) -> Reached
         }
         j -= 1;
         if layout::threshold(j) <= layout::phi(rack, a, j) {
-            break Reached::At(j, a);
+            break Reached::At { i: j, u: a };
         }
         if layout::threshold(j) <= layout::phi(rack, b, j) {
-            break Reached::At(j, b);
+            break Reached::At { i: j, u: b };
         }
     }
 }

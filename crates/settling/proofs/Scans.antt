@@ -16,7 +16,7 @@ use Rattle.layout.specs.Setters.{Sized}
 use Rattle.layout.specs.Rows.{NextOwned}
 use Rattle.moves.specs.Proper.{Proper, Ordered, Held, RowBelow}
 use Rattle.moves.proofs.Held.{reads-as, held-of, held-owns, held-small, NextIn, next-in}
-use Rattle.settling.specs.Settling.{running, HoldsPending, Left, visited}
+use Rattle.settling.specs.Settling.{running, HoldsPending, Left, visited, drawLimit, takeLimit}
 use Rattle.settling.specs.declared.Tally.{Tally}
 use Rattle.settling.proofs.Steps.{SameEdges}
 use Rattle.settling.proofs.News.{SameRun, visited-same, upto-none, upto-yes, upto-room}
@@ -87,14 +87,14 @@ module _ {words : List ℕ} {i v : ℕ} {bs₀ : List ℕ} {t₀ : Tally} (a : S
 
   module _ {bs row : List ℕ} {t : Tally} {w : ℕ} (g : Scanning words i v bs₀ t₀ bs row t w) where
     -- what the visit asks
-    pub scan-visits : w < read bs₀ .n → t₀ .draws ≤ 900000
-        → (Held bs × Ordered (read bs)) × (((w < read bs .n) × (i ≤ base .top)) × (HoldsPending row (read bs) × (t .draws ≤ 1000000)))
+    pub scan-visits : w < read bs₀ .n → t₀ .draws ≤ takeLimit
+        → (Held bs × Ordered (read bs)) × (((w < read bs .n) × (i ≤ base .top)) × (HoldsPending row (read bs) × (t .draws ≤ drawLimit)))
     unfolding done
     scan-visits b d =
         let q : SameEdges (read bs₀) (done w .state) = done-kept w in
         let e : read bs ≡ done w .state = reads-as bs (done w .state) (g .left .rack) (q .proper) in
         let m = upto-room words i base (read bs₀ .owns v) w (running bs₀ t₀) .0 in
-        subst (λ (s : State). (Held bs × Ordered s) × (((w < s .n) × (i ≤ base .top)) × (HoldsPending row s × (t .draws ≤ 1000000)))) (sym e) (
+        subst (λ (s : State). (Held bs × Ordered s) × (((w < s .n) × (i ≤ base .top)) × (HoldsPending row s × (t .draws ≤ drawLimit)))) (sym e) (
           (held-of bs (done w .state) (g .left .rack) (q .proper), q .ordered),
           (
             (omega (arith, q .size), a .level),

@@ -13,7 +13,7 @@ use Rattle.theory.proofs.Settling.{settle-step, settle-rest}
 use Rattle.moves.specs.Proper.{Proper, Ordered, Held}
 use Rattle.moves.proofs.Held.{reads-as, held-of, held-size}
 use Rattle.settling.specs.declared.Tally.{Tally}
-use Rattle.settling.specs.Settling.{running, HoldsPending, Room, Left}
+use Rattle.settling.specs.Settling.{running, HoldsPending, Room, Left, takeLimit}
 use Rattle.settling.proofs.News.{same-then}
 use Rattle.settling.proofs.Kept.{SameEdges, SameRun, take-kept, take-room, take-same}
 
@@ -75,7 +75,7 @@ going-start words bs row left t h o w m e = record {
 }
 
 module _ {words : List ℕ} {r : Run} {bs row : List ℕ} {left : ℕ} {t : Tally} (g : TakingsLeft words r bs row left t) where
-  pub going-room : Room 900000 900000 t
+  pub going-room : Room takeLimit takeLimit t
   going-room = record { draws = omega (arith, g .draws); falls = omega (arith, g .falls) }
 
   -- where no taking follows, the settling is done

@@ -11,7 +11,7 @@ use Rattle.layout.specs.Rows.{degreeAt}
 use Rattle.moves.specs.Proper.{Ordered, Held, RowBelow, ranked}
 use Rattle.moves.proofs.Held.{reads-as, held-of}
 use Rattle.moves.proofs.Keeps.{hand-row, ranked-row}
-use Rattle.settling.specs.Settling.{running, HoldsPending, Left}
+use Rattle.settling.specs.Settling.{running, HoldsPending, Left, drawLimit, takeLimit}
 use Rattle.settling.specs.declared.Tally.{Tally}
 use Rattle.settling.proofs.Steps.{hand-kept, fall-kept}
 use Rattle.settling.proofs.News.{scanFrom-same}
@@ -26,7 +26,7 @@ abbrev pub Falls : List ℕ → ℕ → ℕ → State → Type 0
 Falls b i v s = Held b × (((v < s .n) × (s .rank v ≡ suc i) × (i ≤ base .top)) × RowBelow i v s)
 
 abbrev pub Scans : List ℕ → ℕ → ℕ → List ℕ → ℕ → State → Type 0
-Scans b i v row d s = (Held b × Ordered s) × (((v < s .n) × (i ≤ base .top) × RowBelow i v s) × (HoldsPending row s × (d ≤ 900000)))
+Scans b i v row d s = (Held b × Ordered s) × (((v < s .n) × (i ≤ base .top) × RowBelow i v s) × (HoldsPending row s × (d ≤ takeLimit)))
 
 -- v, pending at level i, has handed its edges of that level on: bs before, b after
 pub record Handed (bs : List ℕ) (i v : ℕ) (b : List ℕ) : Type 0 where
@@ -61,7 +61,7 @@ module _ {bs : List ℕ} {i v : ℕ} {b : List ℕ} (a : Handed bs i v b) where
       let f = handed-falls .1 in
       row-degree b handed-held i v (f .0 .0) (f .1) ∙ ap (λ (s : State). below s v i) handed-read
 
-  pub handed-draws : {row : List ℕ} (k d : ℕ) → k ≡ degreeAt b v → base .thr i ≤ degreeAt b v → HoldsPending row (read bs) → d ≤ 1000000
+  pub handed-draws : {row : List ℕ} (k d : ℕ) → k ≡ degreeAt b v → base .thr i ≤ degreeAt b v → HoldsPending row (read bs) → d ≤ drawLimit
       → Draws b i v k row d (read b)
   unfolding handOver
   handed-draws k d g n w x =
@@ -92,7 +92,7 @@ module _ {bs : List ℕ} {i v : ℕ} {b : List ℕ} (a : Handed bs i v b) where
     fallen-read : read b₂ ≡ ranked v i (handOver i v (read bs))
     fallen-read = reads-as b₂ (ranked v i (handOver i v (read bs))) fallen-write (fallen-kept .proper)
 
-    pub fallen-scans : {row : List ℕ} (d : ℕ) → HoldsPending row (read bs) → d ≤ 900000 → Scans b₂ i v row d (read b₂)
+    pub fallen-scans : {row : List ℕ} (d : ℕ) → HoldsPending row (read bs) → d ≤ takeLimit → Scans b₂ i v row d (read b₂)
     unfolding handOver
     fallen-scans {row} d w x =
         let s : State = handOver i v (read bs) in

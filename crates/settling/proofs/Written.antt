@@ -13,7 +13,7 @@ use Rattle.moves.specs.Proper.{Proper, Ordered, Held, RowBelow, tookOver}
 use Rattle.moves.proofs.Edges.{near-low}
 use Rattle.moves.proofs.Keeps.{part-proper, took-proper, took-row, ranked-row, rise-halves}
 use Rattle.moves.proofs.Held.{reads-as, held-of}
-use Rattle.settling.specs.Settling.{running, HoldsPendingBut, HoldsPending, noted, Left}
+use Rattle.settling.specs.Settling.{running, HoldsPendingBut, HoldsPending, noted, Left, drawLimit}
 use Rattle.settling.specs.declared.Tally.{Tally}
 use Rattle.settling.proofs.Steps.{SameEdges, lift-below, lift-kept, near-inside, near-other}
 use Rattle.settling.proofs.Pending.{pending-risen, pending-drawn}
@@ -33,7 +33,7 @@ Rises i v s = ((v < s .n) × (s .rank v ≤ i) × (i ≤ base .top)) × ((w : �
 -- what a draw at u among k asks of the bytes, their state, the row and the number of draws
 abbrev pub Draws : List ℕ → ℕ → ℕ → ℕ → List ℕ → ℕ → State → Type 0
 Draws b i u k row d s =
-    (Held b × Ordered s) × (((u < s .n) × (i ≤ base .top)) × ((RowBelow i u s × (1 ≤ below s u i) × (k ≡ degreeAt b u)) × (HoldsPendingBut u row s × (d ≤ 1000000))))
+    (Held b × Ordered s) × (((u < s .n) × (i ≤ base .top)) × ((RowBelow i u s × (1 ≤ below s u i) × (k ≡ degreeAt b u)) × (HoldsPendingBut u row s × (d ≤ drawLimit))))
 
 pub draws-of : {b row : List ℕ} (s : State) → b ≡ write s → Proper s → (i u k d : ℕ) → Draws b i u k row d s → Draws b i u k row d (read b)
 draws-of {b} {row} s e p i u k d a = subst (Draws b i u k row d) (sym (reads-as b s e p)) a
@@ -78,7 +78,7 @@ module _ {bs : List ℕ} {i v : ℕ} (a : Rising bs i v) {b : List ℕ} where
 
   -- v draws next
   pub lifted-draws : b ≡ write (rise i v (part v (read bs))) → {row pending : List ℕ} (k d : ℕ) → 1 ≤ below (read bs) v i → HoldsPending row (read bs)
-      → pending ≡ noted (read bs) row v → d ≤ 1000000 → k ≡ degreeAt b v → Draws b i v k pending d (read b)
+      → pending ≡ noted (read bs) row v → d ≤ drawLimit → k ≡ degreeAt b v → Draws b i v k pending d (read b)
   lifted-draws e {row} k d n w f x g =
       let s : State = rise i v (part v (read bs)) in
       draws-of s e (lifted-kept a .proper) i v k d (

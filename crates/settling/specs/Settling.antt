@@ -33,6 +33,13 @@ pub record HoldsPending (row : List ℕ) (s : State) : Type 0 where
 unfoldable pub noted : State → List ℕ → ℕ → List ℕ
 noted s row v = elim (eqb (s .mate v) v) [ true ↦ row | false ↦ inserted row (s .mate v) ]
 
+-- how far a figure may have come for one more draw or fall to be counted, and for a whole taking, whose scan draws at most once for each vertex
+abbrev pub drawLimit : ℕ
+drawLimit = 1000000
+
+abbrev pub takeLimit : ℕ
+takeLimit = 900000
+
 -- a tally of at most d draws and f falls, so that there is room for more
 pub record Room (d f : ℕ) (t : Tally) : Type 0 where
   pub draws : t .draws ≤ d

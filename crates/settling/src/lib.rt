@@ -9,7 +9,7 @@ ghost use Rattle.model.specs.Bytes.{read, write};
 ghost use Rattle.model.specs.Moves.{part as parted, rise as risen, chosen, draw as drawn, promote as promoted, scanFrom, take as taken, pick as picked, settle as settled};
 ghost use Rattle.layout.specs.Rows.{degreeAt};
 ghost use Rattle.moves.specs.Proper.{Ordered, Held, RowBelow};
-ghost use Rattle.settling.specs.Settling.{running, HoldsPendingBut, HoldsPending, noted, Room, Left, visited, foundBy};
+ghost use Rattle.settling.specs.Settling.{running, HoldsPendingBut, HoldsPending, noted, Room, Left, visited, foundBy, drawLimit, takeLimit};
 
 // "A change answers 0, its draws, its falls": both figures, handed on from move to move.
 pub struct Tally {
@@ -27,7 +27,7 @@ impl Tally {
 
     // One more draw.
     pub fn drew(self) -> Self
-        requires { ⌜ self .draws ≤ 1000000 ⌝ }
+        requires { ⌜ self .draws ≤ drawLimit ⌝ }
         ensures { λ r. ⌜ (r .draws ≡ suc (self .draws)) × (r .falls ≡ self .falls) ⌝ }
     {
         Tally {
@@ -38,7 +38,7 @@ impl Tally {
 
     // One more fall.
     pub fn fell(self) -> Self
-        requires { ⌜ self .falls ≤ 1000000 ⌝ }
+        requires { ⌜ self .falls ≤ drawLimit ⌝ }
         ensures { λ r. ⌜ (r .draws ≡ self .draws) × (r .falls ≡ suc (self .falls)) ⌝ }
     {
         Tally {
@@ -50,7 +50,7 @@ impl Tally {
 
 // The next vertex to be taken, with its level, or that none is pending.
 pub enum Choice {
-    At(usize, usize),
+    At { i: usize, v: usize },
     Nothing,
 }
 
@@ -112,7 +112,7 @@ fn draw(
     requires { ⌜ (Held (now rack)) × (Ordered (read (now rack))) ⌝ }
     requires { ⌜ (u < read (now rack) .n) × (i ≤ base .top) ⌝ }
     requires { ⌜ (RowBelow i u (read (now rack))) × (1 ≤ below (read (now rack)) u i) × (k ≡ degreeAt (now rack) u) ⌝ }
-    requires { ⌜ (HoldsPendingBut u (now pending) (read (now rack))) × (tally .draws ≤ 1000000) ⌝ }
+    requires { ⌜ (HoldsPendingBut u (now pending) (read (now rack))) × (tally .draws ≤ drawLimit) ⌝ }
     ensures { λ r. ⌜ Left (drawn (now (words .entry)) i u (running (now (rack .entry)) tally)) (now (rack .exit)) (now (pending .exit)) r ⌝ }
 {
     let y = choose(rack, words, u, i, k, tally);
@@ -132,7 +132,7 @@ pub fn promote(
 ) -> Tally
     requires { ⌜ (Held (now rack)) × (Ordered (read (now rack))) ⌝ }
     requires { ⌜ (u < read (now rack) .n) × (read (now rack) .rank u ≤ i) × (i ≤ base .top) × (1 ≤ below (read (now rack)) u i) ⌝ }
-    requires { ⌜ (HoldsPending (now pending) (read (now rack))) × (tally .draws ≤ 1000000) ⌝ }
+    requires { ⌜ (HoldsPending (now pending) (read (now rack))) × (tally .draws ≤ drawLimit) ⌝ }
     ensures { λ r. ⌜ Left (promoted (now (words .entry)) i u (running (now (rack .entry)) tally)) (now (rack .exit)) (now (pending .exit)) r ⌝ }
 {
     lift(rack, pending, u, i);
@@ -151,7 +151,7 @@ fn visit(
 ) -> Tally
     requires { ⌜ (Held (now rack)) × (Ordered (read (now rack))) ⌝ }
     requires { ⌜ (w < read (now rack) .n) × (i ≤ base .top) ⌝ }
-    requires { ⌜ (HoldsPending (now pending) (read (now rack))) × (tally .draws ≤ 1000000) ⌝ }
+    requires { ⌜ (HoldsPending (now pending) (read (now rack))) × (tally .draws ≤ drawLimit) ⌝ }
     ensures { λ r. ⌜ Left (visited base (now (words .entry)) i w (running (now (rack .entry)) tally)) (now (rack .exit)) (now (pending .exit)) r ⌝ }
 {
     if i < layout::rank(rack, w) as usize {
@@ -175,7 +175,7 @@ fn scan(
 ) -> Tally
     requires { ⌜ (Held (now rack)) × (Ordered (read (now rack))) ⌝ }
     requires { ⌜ (v < read (now rack) .n) × (i ≤ base .top) × (RowBelow i v (read (now rack))) ⌝ }
-    requires { ⌜ (HoldsPending (now pending) (read (now rack))) × (tally .draws ≤ 900000) ⌝ }
+    requires { ⌜ (HoldsPending (now pending) (read (now rack))) × (tally .draws ≤ takeLimit) ⌝ }
     ensures { λ r. ⌜ Left (scanFrom base (now (words .entry)) i v (running (now (rack .entry)) tally)) (now (rack .exit)) (now (pending .exit)) r ⌝ }
 {
     let n = layout::size(rack);
@@ -199,7 +199,7 @@ fn take(
 ) -> Tally
     requires { ⌜ (Held (now rack)) × (Ordered (read (now rack))) ⌝ }
     requires { ⌜ (v < read (now rack) .n) × (read (now rack) .mate v ≡ v) × (read (now rack) .rank v ≡ suc i) × (i ≤ base .top) ⌝ }
-    requires { ⌜ (HoldsPending (now pending) (read (now rack))) × (Room 900000 900000 tally) ⌝ }
+    requires { ⌜ (HoldsPending (now pending) (read (now rack))) × (Room takeLimit takeLimit tally) ⌝ }
     ensures { λ r. ⌜ Left (taken base (now (words .entry)) i v (running (now (rack .entry)) tally)) (now (rack .exit)) (now (pending .exit)) r ⌝ }
 {
     moves::hand_over(rack, v, i);
@@ -233,7 +233,10 @@ fn pick(rack: &[u8], pending: &[u8]) -> Choice
     if best == 0 {
         return Choice::Nothing;
     }
-    Choice::At((best - 1) as usize, at)
+    Choice::At {
+        i: (best - 1) as usize,
+        v: at,
+    }
 }
 
 // "The settling: while any board waits, take one": never more takings than n times the number of levels from 0 on.
@@ -245,7 +248,7 @@ pub fn settle(rack: &mut [u8], pending: &mut [u8], words: &[u32], tally: Tally) 
     let mut left = layout::size(rack) * (layout::top() + 1);
     let mut t = tally;
     while 0 < left {
-        let Choice::At(i, v) = pick(rack, pending) else {
+        let Choice::At { i, v } = pick(rack, pending) else {
             return t;
         };
         t = take(rack, pending, words, v, i, t);

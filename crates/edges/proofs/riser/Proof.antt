@@ -97,14 +97,17 @@ threshold-requires : tie.Need-threshold-requires Inv-loop μ-loop
 threshold-requires c κs = omega (arith, above c .some, above c .high)
 
 phi-requires : tie.Need-phi-requires Inv-loop μ-loop
-phi-requires c κs = let d = c .before in (held-sized (held (d .before)), (a-small (d .before), omega (arith, level d)))
+phi-requires c κs =
+    let d = c .before in
+    let h = d .before in (held-sized (held h), (omega (arith, a-small h, b-small h), omega (arith, level d)))
 
 threshold-requires-2 : tie.Need-threshold-requires-2 Inv-loop μ-loop
 threshold-requires-2 c κs = let d = c .before .before .before in omega (arith, above d .some, above d .high)
 
 phi-requires-2 : tie.Need-phi-requires-2 Inv-loop μ-loop
 phi-requires-2 c κs =
-    let d = c .before .before .before .before in (held-sized (held (d .before)), (b-small (d .before), omega (arith, level d)))
+    let d = c .before .before .before .before in
+    let h = d .before in (held-sized (held h), (omega (arith, a-small h, b-small h), omega (arith, level d)))
 
 loop-less : tie.Need-loop-less Inv-loop μ-loop
 loop-less c = omega (arith, above (c .before .before .before .before .before .before) .some)

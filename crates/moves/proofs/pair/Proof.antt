@@ -23,7 +23,7 @@ cast-set-mate-2 c = omega (arith, c .before .before .before .before .before .bef
 set-mate-requires-2 : tie.Need-set-mate-requires-2
 set-mate-requires-2 c κs =
     let s = c .before .before .before .before .before .before in
-    (c .before .before .before .set-mate .kept .0 ∙ held-sized (s .pre .0), held-small (s .pre .0) (s .args .y) (s .pre .1 .1))
+    (c .before .before .before .set-mate .kept .0 ∙ held-sized (s .pre .0), omega (arith, s .pre .0 .proper .few))
 
 same-length : tie.Need-same-length
 same-length c = search needs

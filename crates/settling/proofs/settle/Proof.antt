@@ -99,7 +99,7 @@ some-left : (c : tie.After-i Inv-loop μ-loop) → 1 ≤ c .before .before .befo
 some-left c = c .before .before .before .before .before .loop-test .taken
 
 sub-left : tie.Need-sub-left Inv-loop μ-loop
-sub-left c = some-left (c .before .before .before .before .before .before .before .before)
+sub-left c = omega (arith, some-left (c .before .before .before .before .before .before .before .before))
 
 loop-less : tie.Need-loop-less Inv-loop μ-loop
 loop-less c = omega (arith, some-left (c .before .before .before .before .before .before .before .before))
