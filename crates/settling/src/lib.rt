@@ -55,7 +55,7 @@ pub enum Choice {
 }
 
 // The word with number k; past the lent words 0, which no change comes to.
-fn word_at(words: &[u32], k: usize) -> u32
+fn nth_word(words: &[u32], k: usize) -> u32
     ensures { λ r. ⌜ r ≡ getD (now (words .entry)) k 0 ⌝ }
 {
     if k < words.len() {
@@ -83,7 +83,7 @@ fn choose(rack: &[u8], words: &[u32], u: usize, i: usize, k: usize, tally: Tally
     requires { ⌜ (u < read (now rack) .n) × (RowBelow i u (read (now rack))) × (1 ≤ below (read (now rack)) u i) × (k ≡ degreeAt (now rack) u) ⌝ }
     ensures { λ r. ⌜ (r ≡ chosen (now (words .entry)) i u (running (now (rack .entry)) tally)) × (T (near (read (now (rack .entry))) u i r)) ⌝ }
 {
-    let word = word_at(words, tally.draws as usize);
+    let word = nth_word(words, tally.draws as usize);
     layout::nth_owned(rack, u, word as usize % k)
 }
 

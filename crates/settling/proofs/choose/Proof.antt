@@ -10,11 +10,11 @@ use Rattle.settling.proofs.Entries.{row-degree, row-chosen}
 use Rattle.settling.proofs.choose.Statement.{statement}
 use Rattle.settling.proofs.choose.Tie as tie
 
-cast-word-at : tie.Need-cast-word-at
-cast-word-at c = search needs
+cast-nth-word : tie.Need-cast-nth-word
+cast-nth-word c = search needs
 
-word-at-requires : tie.Need-word-at-requires
-word-at-requires c κs = search needs
+nth-word-requires : tie.Need-nth-word-requires
+nth-word-requires c κs = search needs
 
 cast-nth-owned : tie.Need-cast-nth-owned
 cast-nth-owned c = search needs
@@ -33,21 +33,21 @@ nth-owned-requires : tie.Need-nth-owned-requires
 nth-owned-requires c κs =
     let s = c .before .before .before .before in
     let p = s .pre in
-    (held-sized (p .0), (held-small (p .0) _ (p .1 .0), subst (λ (k : ℕ). c .word-at .result % s .args .k < k) (p .1 .3) (mod-lt _ (some s))))
+    (held-sized (p .0), (held-small (p .0) _ (p .1 .0), subst (λ (k : ℕ). c .nth-word .result % s .args .k < k) (p .1 .3) (mod-lt _ (some s))))
 
 returns : tie.Need-returns
 returns c =
     let a = c .before .before .before .before .before .args in
     let p = c .before .before .before .before .before .pre in
     row-chosen (a .rack .now) (p .0) (a .i) (a .u) (p .1 .0) (p .1 .1) (a .words .now) (a .tally) (a .k) (c .nth-owned .result) (p .1 .3)
-    (subst (λ (x : ℕ). NthOwned (a .rack .now) (a .u) (x % a .k) (c .nth-owned .result)) (c .before .word-at .ensures) (c .nth-owned .ensures))
+    (subst (λ (x : ℕ). NthOwned (a .rack .now) (a .u) (x % a .k) (c .nth-owned .result)) (c .before .nth-word .ensures) (c .nth-owned .ensures))
 
 pub choose-spec : {M : Type 1} → statement M
 choose-spec =
     tie.close
     (tie.spec
-    cast-word-at
-    word-at-requires
+    cast-nth-word
+    nth-word-requires
     cast-nth-owned
     rem-nth-owned
     nth-owned-requires

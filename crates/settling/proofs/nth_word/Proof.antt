@@ -1,9 +1,9 @@
--- `settling::word_at` meets its contract. Assumes nothing.
+-- `settling::nth_word` meets its contract. Assumes nothing.
 use mathlib.Core.Path.{sym}
 use lib.ListN.{List·getD-eq-default}
 use borrow.Author.Needs.{needs}
-use Rattle.settling.proofs.word_at.Statement.{statement}
-use Rattle.settling.proofs.word_at.Tie as tie
+use Rattle.settling.proofs.nth_word.Statement.{statement}
+use Rattle.settling.proofs.nth_word.Tie as tie
 
 mul-result : tie.Need-mul-result
 mul-result c = search needs
@@ -17,5 +17,5 @@ returns c = search needs
 returns-2 : tie.Need-returns-2
 returns-2 c = sym (List·getD-eq-default (c .before .args .words .now) 0 (c .if1 .left))
 
-pub word-at-spec : {M : Type 1} → statement M
-word-at-spec = tie.close (tie.spec mul-result shared-slice-read-result returns returns-2)
+pub nth-word-spec : {M : Type 1} → statement M
+nth-word-spec = tie.close (tie.spec mul-result shared-slice-read-result returns returns-2)
