@@ -1,7 +1,8 @@
 -- An add on the bytes: the owner's bit, and what an edge more needs. Assumes nothing.
 use mathlib.Core.Path.{_≡_, ap, _∙_}
 use mathlib.Core.Logic.{_≢_}
-use Prim.Native.Nat.{ℕ, suc, _≤_, _<_}
+use mathlib.Core.Bool.{true}
+use Prim.Native.Nat.{ℕ, _≤_, _<_}
 use native.Mathlib.Omega.{arith}
 use lib.Dec.{T}
 use Rattle.model.specs.State.{base, State, edge}
@@ -10,6 +11,7 @@ use Rattle.model.specs.Change.{addEdge, owning}
 use Rattle.model.proofs.Limits.{edges-few}
 use Rattle.layout.specs.Setters.{own}
 use Rattle.moves.specs.Proper.{Proper}
+use Rattle.moves.specs.Counts.{step}
 use Rattle.moves.proofs.Recount.{phi-fits}
 use Rattle.edges.specs.Steps.{Countable}
 use Rattle.edges.proofs.Joined.{EdgeMore, edges-more}
@@ -53,10 +55,10 @@ module _ (a b : ℕ) (s : State) (A : Addable a b s) where
 
   -- the counts and the number of edges
   module _ (j : ℕ) (H : Higher a b j s) where
-    more : Shifted a b j suc s (addEdge a b s)
+    more : Shifted a b j (step true) s (addEdge a b s)
     more = gained a b j s (addEdge a b s) joined H
 
-    pub add-step : EdgeStep a b j suc s (addEdge a b s)
+    pub add-step : EdgeStep a b j true s (addEdge a b s)
     unfolding base
     add-step = record {
       shifted = more;
@@ -69,9 +71,9 @@ module _ (a b : ℕ) (s : State) (A : Addable a b s) where
       b-in = b-small;
     }
 
-    pub add-countable : Countable (λ m x. x < m) suc (image (turned s (addEdge a b s))) a b j
+    pub add-countable : Countable true (image (turned s (addEdge a b s))) a b j
     add-countable =
-        step-countable a b j suc s (addEdge a b s) add-step (λ m x. x < m)
+        step-countable a b j true s (addEdge a b s) add-step
         (λ x l. omega (arith, more .on-a x l, phi-fits (addEdge a b s) added-proper a x))
         (λ x l. omega (arith, more .on-b x l, phi-fits (addEdge a b s) added-proper b x))
         (omega (arith, add-step .number, edges-few (addEdge a b s) (omega (arith, add-size a b s, A .proper .few))))

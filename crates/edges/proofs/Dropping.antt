@@ -1,7 +1,8 @@
 -- A drop on the bytes: both ends' bits, and what an edge less needs. Assumes nothing.
 use mathlib.Core.Path.{_≡_, refl}
 use mathlib.Core.Logic.{_≢_}
-use Prim.Native.Nat.{ℕ, suc, _-_, _≤_, _<_}
+use mathlib.Core.Bool.{true, false}
+use Prim.Native.Nat.{ℕ, _-_, _<_}
 use native.Mathlib.Omega.{arith}
 use lib.Dec.{T}
 use Rattle.model.specs.State.{base, State, edge}
@@ -9,7 +10,7 @@ use Rattle.model.specs.Bytes.{image, write}
 use Rattle.model.specs.Change.{reown}
 use Rattle.layout.specs.Setters.{disown}
 use Rattle.moves.specs.Proper.{Proper}
-use Rattle.moves.specs.Counts.{less}
+use Rattle.moves.specs.Counts.{step}
 use Rattle.edges.specs.Steps.{Countable}
 use Rattle.edges.proofs.Joined.{EdgeMore, edges-more}
 use Rattle.edges.proofs.Changed.{dropEdge, drop-joined, drop-here, drop-back, drop-rest}
@@ -40,11 +41,11 @@ module _ (a b : ℕ) (s : State) (D : Droppable a b s) where
 
   -- the counts and the number of edges
   module _ (j : ℕ) (H : Higher a b j s) where
-    more : Shifted a b j suc (dropEdge a b s) s
+    more : Shifted a b j (step true) (dropEdge a b s) s
     unfolding reown
     more = gained a b j (dropEdge a b s) s joined (record { a-low = H .a-low; b-low = H .b-low; least = H .least })
 
-    pub drop-step : EdgeStep a b j less s (dropEdge a b s)
+    pub drop-step : EdgeStep a b j false s (dropEdge a b s)
     unfolding base reown
     drop-step = record {
       shifted = lost a b j s (dropEdge a b s) more;
@@ -57,8 +58,8 @@ module _ (a b : ℕ) (s : State) (D : Droppable a b s) where
       b-in = b-small;
     }
 
-    pub drop-countable : Countable (λ m x. 1 ≤ x) less (image (turned s (dropEdge a b s))) a b j
+    pub drop-countable : Countable false (image (turned s (dropEdge a b s))) a b j
     drop-countable =
-        step-countable a b j less s (dropEdge a b s) drop-step (λ m x. 1 ≤ x)
+        step-countable a b j false s (dropEdge a b s) drop-step
         (λ x l. omega (arith, more .on-a x l)) (λ x l. omega (arith, more .on-b x l))
         (omega (arith, edges-more a b (dropEdge a b s) s joined))

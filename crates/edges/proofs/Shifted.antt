@@ -12,7 +12,7 @@ use Rattle.model.specs.Bytes.{rankAt, read}
 use Rattle.model.proofs.Tests.{eq?, le?, leb-yes, leb-no}
 use Rattle.model.proofs.Lists.{upd-same, upd-other}
 use Rattle.moves.specs.Proper.{Held}
-use Rattle.moves.specs.Counts.{less}
+use Rattle.moves.specs.Counts.{step}
 use Rattle.moves.proofs.Held.{held-rank}
 use Rattle.edges.proofs.Joined.{EdgeMore, joined-turn, phi-more, phi-still, phi-other}
 
@@ -51,7 +51,7 @@ turn (inl x) = inr x
 turn (inr x) = inl x
 
 -- an edge more, and an edge less
-pub gained : (a b j : ℕ) (s t : State) → EdgeMore a b s t → Higher a b j s → Shifted a b j suc s t
+pub gained : (a b j : ℕ) (s t : State) → EdgeMore a b s t → Higher a b j s → Shifted a b j (step true) s t
 gained a b j s t J h =
     let K : EdgeMore b a s t = joined-turn a b s t J in
     record {
@@ -63,7 +63,7 @@ gained a b j s t J h =
       rest = phi-other a b s t J;
     }
 
-pub lost : (a b j : ℕ) (s t : State) → Shifted a b j suc t s → Shifted a b j less s t
+pub lost : (a b j : ℕ) (s t : State) → Shifted a b j (step true) t s → Shifted a b j (step false) s t
 lost a b j s t g = record {
   apart = g .apart;
   on-a = λ x l. omega (arith, g .on-a x l);

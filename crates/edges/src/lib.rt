@@ -8,7 +8,6 @@ ghost use Rattle.model.specs.Bytes.{read, write};
 ghost use Rattle.model.specs.Change.{addEdge as edgeAdded, reown, withoutEdge, riser as riserOf};
 ghost use Rattle.layout.specs.Setters.{Sized};
 ghost use Rattle.moves.specs.Proper.{Held};
-ghost use Rattle.moves.specs.Counts.{less};
 ghost use Rattle.edges.specs.Steps.{Countable, edgeCounted, reachedBy};
 
 // The level that a count reaches, with the vertex that rises to it, or that none is reached.
@@ -27,30 +26,18 @@ fn higher(x: u8, y: u8) -> usize
     x as usize
 }
 
-// The edge a-b counts from level j on: for both its ends, and in the number of edges.
-fn count_edge(rack: &mut [u8], a: usize, b: usize, j: usize)
+// One edge more, or one less, that counts from level j on: for both its ends a and b, and in the number of edges.
+fn count_edge(rack: &mut [u8], a: usize, b: usize, j: usize, more: bool)
     requires { ⌜ Sized (now rack) ⌝ }
-    requires { ⌜ Countable (λ m x. x < m) suc (now rack) a b j ⌝ }
-    ensures { λ _. ⌜ now (rack .exit) ≡ edgeCounted suc (now (rack .entry)) a b j ⌝ }
+    requires { ⌜ Countable more (now rack) a b j ⌝ }
+    ensures { λ _. ⌜ now (rack .exit) ≡ edgeCounted more (now (rack .entry)) a b j ⌝ }
 {
     let k = layout::top() + 1 - j;
-    moves::raise(rack, a, j, k);
-    moves::raise(rack, b, j, k);
+    moves::step_counts(rack, a, j, k, more);
+    moves::step_counts(rack, b, j, k, more);
     let m = layout::edges(rack);
-    layout::set_edges(rack, m + 1);
-}
-
-// The edge a-b, which counted from level j on, no longer counts.
-fn uncount_edge(rack: &mut [u8], a: usize, b: usize, j: usize)
-    requires { ⌜ Sized (now rack) ⌝ }
-    requires { ⌜ Countable (λ m x. 1 ≤ x) less (now rack) a b j ⌝ }
-    ensures { λ _. ⌜ now (rack .exit) ≡ edgeCounted less (now (rack .entry)) a b j ⌝ }
-{
-    let k = layout::top() + 1 - j;
-    moves::lower(rack, a, j, k);
-    moves::lower(rack, b, j, k);
-    let m = layout::edges(rack);
-    layout::set_edges(rack, m - 1);
+    let next = moves::stepped(m, more);
+    layout::set_edges(rack, next);
 }
 
 // "Add: the owner is the end of higher level, on equal levels the lower number": a is the lower number.
@@ -66,7 +53,7 @@ pub fn add_edge(rack: &mut [u8], a: usize, b: usize)
     } else {
         layout::own(rack, b, a);
     }
-    count_edge(rack, a, b, higher(ra, rb));
+    count_edge(rack, a, b, higher(ra, rb), true);
 }
 
 // "Drop: remove the link.": whichever end owns it.
@@ -78,7 +65,7 @@ pub fn drop_edge(rack: &mut [u8], a: usize, b: usize)
     let j = higher(layout::rank(rack, a), layout::rank(rack, b));
     layout::disown(rack, a, b);
     layout::disown(rack, b, a);
-    uncount_edge(rack, a, b, j);
+    count_edge(rack, a, b, j, false);
 }
 
 // "The search for a rise stops at the first level, from 3 downwards to one above both ends, that either end's count reaches. [..] If both

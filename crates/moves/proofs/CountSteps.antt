@@ -1,6 +1,7 @@
 -- The steps on a vertex's counts: what they leave, and what they make of an image. Assumes nothing.
 use mathlib.Core.Path.{_≡_, refl, sym, ap, _∙_}
 use mathlib.Core.Logic.{_≢_}
+use mathlib.Core.Bool.{Bool, true, false}
 use mathlib.Core.List.{List}
 use Prim.Native.Nat.{ℕ, zero, suc, _+_, _*_, _≤_, _<_}
 use native.Mathlib.Numerals.{add-one}
@@ -11,7 +12,18 @@ use Rattle.model.proofs.Fields.{phi-image}
 use Rattle.layout.specs.Setters.{setPhi}
 use Rattle.layout.proofs.Images.{image-ext, withPhi, setPhi-image}
 use Rattle.layout.proofs.Tables.{entry-other, entry-is}
-use Rattle.moves.specs.Counts.{withCounts, recounted}
+use Rattle.moves.specs.Counts.{withCounts, step, CanStep, recounted}
+
+-- ---- one step
+
+-- what there is room for in a byte there is room for in two, and it stays a byte
+pub step-wider : (more : Bool) (x : ℕ) → CanStep more 255 x → CanStep more 65535 x
+step-wider true x h = omega arith
+step-wider false x h = h
+
+pub step-byte : (more : Bool) (x : ℕ) → x < 256 → CanStep more 255 x → step more x < 256
+step-byte true x l h = omega arith
+step-byte false x l h = omega arith
 
 -- ---- on any bytes
 

@@ -1,6 +1,7 @@
 -- A walk along a vertex's row that gives each vertex met its new counts, with the rest of the bytes as they were. Assumes nothing.
 use mathlib.Core.Path.{_≡_, refl, sym, ap, _∙_, subst}
 use mathlib.Core.Logic.{_≢_, inl, inr}
+use mathlib.Core.Bool.{false}
 use mathlib.Core.List.{List}
 use Prim.Native.Nat.{ℕ, suc, _+_, _-_, _≤_, _<_}
 use native.Mathlib.Omega.{arith}
@@ -15,7 +16,7 @@ use Rattle.model.proofs.Fields.{image-length, rank-image, phi-image, owns-image
 use Rattle.layout.specs.Setters.{Sized, setPhi}
 use Rattle.layout.specs.Rows.{NextOwned}
 use Rattle.moves.specs.Proper.{Proper, Held, RowBelow}
-use Rattle.moves.specs.Counts.{withCounts, recounted, less, loweredCounts, raisedCounts}
+use Rattle.moves.specs.Counts.{withCounts, step, recounted, loweredCounts, raisedCounts}
 use Rattle.moves.proofs.Held.{held-sized, held-size, held-small, held-owns, NextIn, next-in}
 use Rattle.moves.proofs.Choices.{hit-says, hit-of, lowered-yes, lowered-no, raised-yes, raised-no}
 use Rattle.moves.proofs.CountSteps.{counts-ext, recounted-image, setCount-image}
@@ -181,13 +182,13 @@ lowered-quiet s i u x j d = lowered-no s i u x j (λ t. d (hit-says s i u x j t 
 -- the counts of one vertex lowered
 pub lowered-turn : (s : State) (i u : ℕ) (bs : List ℕ) (w : ℕ) (k : RowCounted s (loweredCounts s i u) u bs w) (next : List ℕ)
     → w < 256 → i < 4 → T (s .owns u w) → (j : ℕ) → s .rank u ≤ j → s .rank w ≤ j → ((x : ℕ) → s .rank u ≤ x → s .rank w ≤ x → j ≤ x)
-    → j ≤ i → next ≡ recounted less bs w j (i + 1 - j) → Counted s (upd (k .counts) w (loweredCounts s i u w)) next
+    → j ≤ i → next ≡ recounted (step false) bs w j (i + 1 - j) → Counted s (upd (k .counts) w (loweredCounts s i u w)) next
 unfolding withCounts
 lowered-turn s i u bs w k next l b t j h₁ h₂ least h₃ f =
     let new : ℕ → ℕ = loweredCounts s i u w in
     let old : (x : ℕ) → k .counts w x ≡ phi s w x = λ x. k .left w x (omega arith) in
-    f ∙ ap (λ (x : List ℕ). recounted less x w j (i + 1 - j)) (k .is)
-    ∙ recounted-image less (withCounts (fieldsOf s) (k .counts)) w j (i + 1 - j) (upd (k .counts) w new) l (omega arith)
+    f ∙ ap (λ (x : List ℕ). recounted (step false) x w j (i + 1 - j)) (k .is)
+    ∙ recounted-image (step false) (withCounts (fieldsOf s) (k .counts)) w j (i + 1 - j) (upd (k .counts) w new) l (omega arith)
     (λ x p q. row-at (k .counts) w new x ∙ lowered-yes s i u w x (hit-of s i u w x t (omega arith) (omega arith) (omega arith))
     ∙ ap (λ (z : ℕ). z - 1) (sym (old x)))
     (λ v x d. row-kept (k .counts) w new v x

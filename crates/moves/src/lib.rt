@@ -10,7 +10,7 @@ ghost use Rattle.model.specs.Moves.{part as parted, rise as risen, marry as pai
 ghost use Rattle.layout.specs.Setters.{Sized, own as owned, disown as disowned};
 ghost use Rattle.layout.specs.Rows.{degreeAt};
 ghost use Rattle.moves.specs.Proper.{Held, tookOver, ranked, RowBelow};
-ghost use Rattle.moves.specs.Counts.{withCounts, recounted, less, none, loweredCounts, raisedCounts};
+ghost use Rattle.moves.specs.Counts.{withCounts, step, CanStep, none, recounted, loweredCounts, raisedCounts};
 
 // v's pair is parted; a free v stays as it is.
 pub fn part(rack: &mut [u8], v: usize)
@@ -83,32 +83,28 @@ pub fn hand_over(rack: &mut [u8], v: usize, i: usize)
     }
 }
 
-// The counts of w lose 1 at the k levels from j on.
-pub fn lower(rack: &mut [u8], w: usize, j: usize, k: usize)
-    requires { ⌜ Sized (now rack) ⌝ }
-    requires { ⌜ (w < mostOf) × (j + k ≤ 4) ⌝ }
-    requires { ⌜ ((x : ℕ) → j ≤ x → x < j + k → 1 ≤ phiAt (now rack) w x) ⌝ }
-    ensures { λ _. ⌜ now (rack .exit) ≡ recounted less (now (rack .entry)) w j k ⌝ }
+// One more, or one less.
+pub fn stepped(x: u16, more: bool) -> u16
+    requires { ⌜ CanStep more 65535 x ⌝ }
+    ensures { λ r. ⌜ r ≡ step more x ⌝ }
 {
-    let mut x = 0;
-    while x < k {
-        let c = layout::phi(rack, w, j + x);
-        layout::set_phi(rack, w, j + x, c - 1);
-        x += 1;
+    if more {
+        return x + 1;
     }
+    x - 1
 }
 
-// The counts of w gain 1 at the k levels from j on.
-pub fn raise(rack: &mut [u8], w: usize, j: usize, k: usize)
+// The counts of w at the k levels from j on are one more, or one less.
+pub fn step_counts(rack: &mut [u8], w: usize, j: usize, k: usize, more: bool)
     requires { ⌜ Sized (now rack) ⌝ }
     requires { ⌜ (w < mostOf) × (j + k ≤ 4) ⌝ }
-    requires { ⌜ ((x : ℕ) → j ≤ x → x < j + k → phiAt (now rack) w x < 255) ⌝ }
-    ensures { λ _. ⌜ now (rack .exit) ≡ recounted suc (now (rack .entry)) w j k ⌝ }
+    requires { ⌜ ((x : ℕ) → j ≤ x → x < j + k → CanStep more 255 (phiAt (now rack) w x)) ⌝ }
+    ensures { λ _. ⌜ now (rack .exit) ≡ recounted (step more) (now (rack .entry)) w j k ⌝ }
 {
     let mut x = 0;
     while x < k {
         let c = layout::phi(rack, w, j + x);
-        layout::set_phi(rack, w, j + x, c + 1);
+        layout::set_phi(rack, w, j + x, stepped(c as u16, more) as u8);
         x += 1;
     }
 }
@@ -126,9 +122,9 @@ fn lower_counts(rack: &mut [u8], u: usize, i: usize)
     while w < n {
         let r = layout::rank(rack, w) as usize;
         if r < from {
-            lower(rack, w, from, i + 1 - from);
+            step_counts(rack, w, from, i + 1 - from, false);
         } else {
-            lower(rack, w, r, i + 1 - r);
+            step_counts(rack, w, r, i + 1 - r, false);
         }
         w = layout::next_owned(rack, u, w + 1);
     }

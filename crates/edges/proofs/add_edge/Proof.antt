@@ -1,8 +1,9 @@
 -- `edges::add_edge` meets its contract: the owner's bit, and an edge more. Assumes nothing.
 use mathlib.Core.Path.{_≡_, sym, ap, _∙_, subst}
+use mathlib.Core.Bool.{true}
 use mathlib.Core.Logic.{⊎-elim}
 use mathlib.Core.List.{List}
-use Prim.Native.Nat.{ℕ, suc, _<_}
+use Prim.Native.Nat.{ℕ, _<_}
 use native.Mathlib.Omega.{arith}
 use borrow.Author.Needs.{needs}
 use lib.Dec.{T}
@@ -86,8 +87,8 @@ written-now c =
     let a = d .args .a in
     let b = d .args .b in
     let j = e .higher .result in
-    c .before .before .count-edge .ensures ∙ ap (λ (bs : List ℕ). edgeCounted suc bs a b j) (turned-now (higher-join e))
-    ∙ step-written a b j suc (from d) (to d) (add-step a b (from d) (addable d) j (higher-is e))
+    c .before .before .count-edge .ensures ∙ ap (λ (bs : List ℕ). edgeCounted true bs a b j) (turned-now (higher-join e))
+    ∙ step-written a b j true (from d) (to d) (add-step a b (from d) (addable d) j (higher-is e))
 
 rank-requires : tie.Need-rank-requires
 rank-requires c κs = let d = c .before .before in (held-sized (d .pre .0), a-low d)
@@ -112,7 +113,7 @@ count-edge-requires c κs =
     let j = c .higher .result in
     let now = turned-now (higher-join c) in (
       ap length now ∙ turned-sized (from d) (to d),
-      subst (λ (bs : List ℕ). Countable (λ m x. x < m) suc bs a b j) (sym now)
+      subst (λ (bs : List ℕ). Countable true bs a b j) (sym now)
           (add-countable a b (from d) (addable d) j (higher-is c)),
     )
 

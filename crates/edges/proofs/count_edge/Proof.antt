@@ -1,5 +1,5 @@
 -- `edges::count_edge` meets its contract: one end's counts, then the other's, then the number of edges. Assumes nothing.
-use mathlib.Core.Path.{_≡_, ap, _∙_}
+use mathlib.Core.Path.{_≡_, sym, ap, _∙_, subst}
 use mathlib.Core.List.{List}
 use Prim.Native.Nat.{ℕ, suc, _+_, _-_}
 use native.Mathlib.Omega.{arith}
@@ -7,19 +7,19 @@ use borrow.Author.Needs.{needs}
 use Rattle.model.specs.State.{base}
 use Rattle.model.specs.Bytes.{edgesAt, phiAt}
 use Rattle.layout.specs.Setters.{setEdges}
-use Rattle.moves.specs.Counts.{recounted}
+use Rattle.moves.specs.Counts.{step, CanStep, recounted}
 use Rattle.edges.specs.Steps.{recountedFrom, endsCounted, edgeCounted}
 use Rattle.edges.proofs.count_edge.Statement.{statement}
 use Rattle.edges.proofs.count_edge.Tie as tie
 
 -- the places, each from the one before it
-abbrev first-start : tie.After-raise → tie.Start
+abbrev first-start : tie.After-step-counts → tie.Start
 first-start c = c .before .before .before .before
 
-abbrev second-first : tie.After-raise2 → tie.After-raise
+abbrev second-first : tie.After-step-counts2 → tie.After-step-counts
 second-first c = c .before .before .before .before
 
-abbrev edges-second : tie.After-edges → tie.After-raise2
+abbrev edges-second : tie.After-edges → tie.After-step-counts2
 edges-second c = c .before .before .before .before
 
 -- the number of levels from j on
@@ -27,18 +27,19 @@ levels : (c : tie.After-top) → c .top .result + 1 - c .before .before .args .j
 levels c = omega (arith, c .top .ensures)
 
 -- what each step leaves
-first-now : (c : tie.After-raise)
-    → let a = first-start c .args in c .raise .last .0 ≡ recountedFrom suc (a .rack .now) (a .a) (a .j)
+first-now : (c : tie.After-step-counts)
+    → let a = first-start c .args in c .step-counts .last .0 ≡ recountedFrom (a .more) (a .rack .now) (a .a) (a .j)
 first-now c =
-    let a = first-start c .args in c .raise .ensures ∙ ap (recounted suc (a .rack .now) (a .a) (a .j)) (levels (c .before .before))
+    let a = first-start c .args in
+    c .step-counts .ensures ∙ ap (recounted (step (a .more)) (a .rack .now) (a .a) (a .j)) (levels (c .before .before))
 
-second-now : (c : tie.After-raise2)
-    → let a = first-start (second-first c) .args in c .raise2 .last .0 ≡ endsCounted suc (a .rack .now) (a .a) (a .b) (a .j)
+second-now : (c : tie.After-step-counts2)
+    → let a = first-start (second-first c) .args in c .step-counts2 .last .0 ≡ endsCounted (a .more) (a .rack .now) (a .a) (a .b) (a .j)
 second-now c =
     let f = second-first c in
     let a = first-start f .args in
-    c .raise2 .ensures ∙ ap (recounted suc (f .raise .last .0) (a .b) (a .j)) (levels (f .before .before))
-    ∙ ap (λ (bs : List ℕ). recountedFrom suc bs (a .b) (a .j)) (first-now f)
+    c .step-counts2 .ensures ∙ ap (recounted (step (a .more)) (f .step-counts .last .0) (a .b) (a .j)) (levels (f .before .before))
+    ∙ ap (λ (bs : List ℕ). recountedFrom (a .more) bs (a .b) (a .j)) (first-now f)
 
 top-requires : tie.Need-top-requires
 top-requires c κs = search needs
@@ -50,38 +51,35 @@ add-k c = omega (arith, c .top .ensures)
 sub-k : tie.Need-sub-k
 sub-k c = omega (arith, c .top .ensures, c .before .before .pre .1 .level)
 
-raise-requires : tie.Need-raise-requires
+step-counts-requires : tie.Need-step-counts-requires
 unfolding base
-raise-requires c κs =
+step-counts-requires c κs =
     let p = c .before .before .before .pre in
     let k = levels (c .before) in
     (p .0, ((p .1 .a-in, omega (arith, p .1 .level)), λ x l h. p .1 .of-a x l (omega (arith, p .1 .level))))
 
-raise-requires-2 : tie.Need-raise-requires-2
+step-counts-requires-2 : tie.Need-step-counts-requires-2
 unfolding base
-raise-requires-2 c κs =
+step-counts-requires-2 c κs =
     let f = c .before .before .before in
     let a = first-start f .args in
     let p = first-start f .pre in
     let k = levels (f .before .before) in (
-      omega (arith, f .raise .kept .0, p .0),
+      omega (arith, f .step-counts .kept .0, p .0),
       (
         (p .1 .b-in, omega (arith, p .1 .level)),
-        λ x l h. omega (
-          arith,
-          ap (λ (bs : List ℕ). phiAt bs (a .b) x) (first-now f),
-          p .1 .of-b x l (omega (arith, p .1 .level)),
-        ),
+        λ x l h. subst (λ (bs : List ℕ). CanStep (a .more) 255 (phiAt bs (a .b) x)) (sym (first-now f)) (p .1 .of-b x l (omega (arith, p .1 .level))),
       ),
     )
 
 edges-requires : tie.Need-edges-requires
 edges-requires c κs = search needs
 
-add-set-edges : tie.Need-add-set-edges
-add-set-edges c =
-    let s = edges-second (c .before) in
-    omega (arith, c .before .edges .ensures, ap edgesAt (second-now s), first-start (second-first s) .pre .1 .of-edges)
+stepped-requires : tie.Need-stepped-requires
+stepped-requires c κs =
+    let s = edges-second c in
+    let d = first-start (second-first s) in
+    subst (CanStep (d .args .more) 65535) (sym (c .edges .ensures ∙ ap edgesAt (second-now s))) (d .pre .1 .of-edges)
 
 set-edges-requires : tie.Need-set-edges-requires
 set-edges-requires c κs = search needs
@@ -92,10 +90,12 @@ same-length c = search needs
 returns : tie.Need-returns
 unfolding edgeCounted
 returns c =
-    let e = c .before .before .before .before in
+    let e = c .before .before .before .before .before in
+    let s = edges-second e in
+    let more = first-start (second-first s) .args .more in
     c .before .before .set-edges .ensures
-    ∙ ap (λ (m : ℕ). setEdges (edges-second e .raise2 .last .0) m) (omega (arith, e .edges .ensures))
-    ∙ ap (λ (bs : List ℕ). setEdges bs (suc (edgesAt bs))) (second-now (edges-second e))
+    ∙ ap (setEdges (s .step-counts2 .last .0)) (c .before .before .before .before .stepped .ensures ∙ ap (step more) (e .edges .ensures))
+    ∙ ap (λ (bs : List ℕ). setEdges bs (step more (edgesAt bs))) (second-now s)
 
 pub count-edge-spec : {M : Type 1} → statement M
 count-edge-spec =
@@ -104,10 +104,10 @@ count-edge-spec =
     top-requires
     add-k
     sub-k
-    raise-requires
-    raise-requires-2
+    step-counts-requires
+    step-counts-requires-2
     edges-requires
-    add-set-edges
+    stepped-requires
     set-edges-requires
     same-length
     returns)

@@ -1,14 +1,14 @@
 -- `edges::drop_edge` meets its contract: the bits of both ends, and an edge less. Assumes nothing.
 use mathlib.Core.Path.{_≡_, sym, ap, _∙_, subst}
+use mathlib.Core.Bool.{false}
 use mathlib.Core.List.{List}
-use Prim.Native.Nat.{ℕ, _≤_, _<_}
+use Prim.Native.Nat.{ℕ, _<_}
 use borrow.Author.Needs.{needs}
 use lib.ListN.{length}
 use Rattle.model.specs.State.{State}
 use Rattle.model.specs.Bytes.{image, read}
 use Rattle.model.proofs.Tests.{true-T}
 use Rattle.layout.specs.Setters.{disown as disowned}
-use Rattle.moves.specs.Counts.{less}
 use Rattle.moves.proofs.Held.{held-sized}
 use Rattle.edges.specs.Steps.{edgeCounted, Countable}
 use Rattle.edges.proofs.Changed.{dropEdge}
@@ -84,8 +84,8 @@ disown-requires-2 c κs =
     let once = c .before .before .before in
     let d = higher-start (once .before .before) in (once .disown .kept .0 ∙ held-sized (d .pre .0), (b-low d, a-low d))
 
-uncount-edge-requires : tie.Need-uncount-edge-requires
-uncount-edge-requires c κs =
+count-edge-requires : tie.Need-count-edge-requires
+count-edge-requires c κs =
     let e = c .before .before .before in
     let h = cleared-higher e in
     let d = higher-start h in
@@ -93,7 +93,7 @@ uncount-edge-requires c κs =
     let b = d .args .b in
     let j = h .higher .result in (
       ap length (turned-now e) ∙ turned-sized (from d) (to d),
-      subst (λ (bs : List ℕ). Countable (λ m x. 1 ≤ x) less bs a b j) (sym (turned-now e))
+      subst (λ (bs : List ℕ). Countable false bs a b j) (sym (turned-now e))
           (drop-countable a b (from d) (droppable d) j (higher-is h)),
     )
 
@@ -108,8 +108,8 @@ returns c =
     let a = d .args .a in
     let b = d .args .b in
     let j = h .higher .result in
-    c .before .before .uncount-edge .ensures ∙ ap (λ (bs : List ℕ). edgeCounted less bs a b j) (turned-now e)
-    ∙ step-written a b j less (from d) (to d) (drop-step a b (from d) (droppable d) j (higher-is h))
+    c .before .before .count-edge .ensures ∙ ap (λ (bs : List ℕ). edgeCounted false bs a b j) (turned-now e)
+    ∙ step-written a b j false (from d) (to d) (drop-step a b (from d) (droppable d) j (higher-is h))
 
 pub drop-edge-spec : {M : Type 1} → statement M
 drop-edge-spec =
@@ -120,6 +120,6 @@ drop-edge-spec =
     higher-requires
     disown-requires
     disown-requires-2
-    uncount-edge-requires
+    count-edge-requires
     same-length
     returns)

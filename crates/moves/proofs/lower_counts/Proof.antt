@@ -138,27 +138,27 @@ rank-requires-2 c κs = (sized (c .before .before), small (c .before))
 cast-r : tie.Need-cast-r Inv-loop μ-loop
 cast-r c = search needs
 
-add-lower : tie.Need-add-lower Inv-loop μ-loop
-add-lower c = omega (arith, small (c .before .before .before .before), level (c .before .before .before .before .before))
+add-step-counts : tie.Need-add-step-counts Inv-loop μ-loop
+add-step-counts c = omega (arith, small (c .before .before .before .before), level (c .before .before .before .before .before))
 
-sub-lower : tie.Need-sub-lower Inv-loop μ-loop
-sub-lower c = omega (arith, from-is (c .before .before .before .before))
+sub-step-counts : tie.Need-sub-step-counts Inv-loop μ-loop
+sub-step-counts c = omega (arith, from-is (c .before .before .before .before))
 
-lower-requires : tie.Need-lower-requires Inv-loop μ-loop
-lower-requires c κs =
+step-counts-requires : tie.Need-step-counts-requires Inv-loop μ-loop
+step-counts-requires c κs =
     let t = c .before .before .before .before in
     let r = rank-is (c .before .before) in
     let f = from-is t in
     (sized (t .before), ((small t, omega (arith, level (t .before))), λ x p q. counted t x p (omega arith) (omega arith)))
 
-add-lower-2 : tie.Need-add-lower-2 Inv-loop μ-loop
-add-lower-2 c = omega (arith, small (c .before .before .before .before), level (c .before .before .before .before .before))
+add-step-counts-2 : tie.Need-add-step-counts-2 Inv-loop μ-loop
+add-step-counts-2 c = omega (arith, small (c .before .before .before .before), level (c .before .before .before .before .before))
 
-sub-lower-2 : tie.Need-sub-lower-2 Inv-loop μ-loop
-sub-lower-2 c = omega (arith, rank-is (c .before .before), rank-low (c .before .before .before .before))
+sub-step-counts-2 : tie.Need-sub-step-counts-2 Inv-loop μ-loop
+sub-step-counts-2 c = omega (arith, rank-is (c .before .before), rank-low (c .before .before .before .before))
 
-lower-requires-2 : tie.Need-lower-requires-2 Inv-loop μ-loop
-lower-requires-2 c κs =
+step-counts-requires-2 : tie.Need-step-counts-requires-2 Inv-loop μ-loop
+step-counts-requires-2 c κs =
     let t = c .before .before .before .before in
     let r = rank-is (c .before .before) in
     let b = rank-low t in
@@ -199,12 +199,12 @@ lower-counts-spec =
     loop-holds
     rank-requires-2
     cast-r
-    add-lower
-    sub-lower
-    lower-requires
-    add-lower-2
-    sub-lower-2
-    lower-requires-2
+    add-step-counts
+    sub-step-counts
+    step-counts-requires
+    add-step-counts-2
+    sub-step-counts-2
+    step-counts-requires-2
     add-next-owned
     next-owned-requires-2
     loop-less
