@@ -53,7 +53,7 @@ implied-by : (a b : Bool) → T (implied a b) → T a → T b
 implied-by a b h t = elim (or-cases (not a) b h) [ inl n ↦ absurd (T-not a n t) | inr k ↦ k ]
 
 -- the tests one by one
-pub record Passed (R : Rules) (s : State) : Type 0 where
+record Passed (R : Rules) (s : State) : Type 0 where
   pub ranks : T (every (rankTest R s) (s .n))
   pub back : T (every (backTest s) (s .n))
   pub links : T (every (linkTest s) (s .n))
