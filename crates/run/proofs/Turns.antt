@@ -2,7 +2,7 @@
 -- No contract cites this file. Assumes nothing.
 use mathlib.Core.Path.{_≡_, refl, sym, ap, _∙_}
 use mathlib.Core.List.{List, [], _∷_, _++_, append-assoc}
-use Prim.Native.Nat.{ℕ, _+_, _*_, _≤_, _<_}
+use Prim.Native.Nat.{ℕ, _+_, _*_, _-_, _≤_, _<_}
 use native.Mathlib.Omega.{arith}
 use lib.ListN.{length, getD, take, drop, length-append, length-drop}
 use lib.Seq.{getD-drop, drop-drop, take-at, drop-at}
@@ -16,13 +16,14 @@ use Rattle.model.specs.Record.{pairLines, endLine, answerLine, after, changesTe
 use Rattle.model.proofs.Reading.{read-write}
 use Rattle.theory.proofs.OnBytes.{step}
 use Rattle.text.specs.Writing.{Put}
-use Rattle.text.proofs.Over.{part, back, put-as, put-none, put-then}
+use Rattle.text.proofs.Over.{part, back, put-as, put-none, put-then, put-length}
 use Rattle.text.proofs.Answers.{answer-most}
 use Rattle.record.specs.Line.{answerRoom}
-use Rattle.trace.specs.Check.{headOf, wordsOf, Kept}
+use Rattle.trace.specs.Check.{headOf, wordsOf, HeadAt, Kept}
+use Rattle.trace.specs.declared.Head.{Head}
 use Rattle.trace.proofs.Bound.{pairs-most, end-most}
 use Rattle.trace.proofs.RecordFits.{valid-small, valid-figures}
-use Rattle.changes.specs.Sounded.{Sounded}
+use Rattle.changes.specs.Sounded.{Sounded, brought}
 use Rattle.changes.proofs.Answered.{sounded-of}
 use Rattle.run.specs.Recording.{endingRoom, endingText, Ready, Played}
 
@@ -33,7 +34,9 @@ sounded-read bs s e ok = (sounded-of bs s e ok, ap read e ∙ read-write base s 
 -- the lines after those of the changes have room
 pub ending-most : (s : State) → Valid base s → length (endingText s) ≤ endingRoom
 unfolding endingText
-ending-most s ok = omega (arith, length-append (pairLines s) (endLine s), pairs-most s (valid-small s ok), end-most s (valid-small s ok))
+ending-most s ok =
+    let h = valid-small s ok in
+    omega (arith, length-append (pairLines s) (endLine s), pairs-most s h, end-most s h)
 
 -- `changes` are kept, n of them; `rest` of them, from the k-th head and the w-th word on, are still to be made
 pub record Going (heads words : List ℕ) (n : ℕ) (rack₀ rack out₀ out : List ℕ) (k w at : ℕ) : Type 0 where
@@ -85,7 +88,18 @@ pub record StoredChange (heads words : List ℕ) (k w : ℕ) (c : Change) : Type
   pub heads-within : 4 * k + 4 ≤ length heads
   pub words-within : w + length (c .words) ≤ length words
 
-module _ {heads words : List ℕ} {n : ℕ} {rack₀ rack out₀ out : List ℕ} {k w at : ℕ} (g : Going heads words n rack₀ rack out₀ out k w at) where
+-- the head that was read is the change's: how many words it has, and that its parts bring the change
+module _ {heads words : List ℕ} {k w : ℕ} {c : Change} {h : Head} (s : StoredChange heads words k w c) (r : HeadAt heads k h) where
+  pub head-size : h .count ≡ length (c .words)
+  head-size = r .count ∙ s .size
+
+  head-brings : brought (h .code) (h .a) (h .b) (take (w + h .count - w) (drop w words)) ≡ c
+  head-brings =
+      let e : w + h .count - w ≡ length (c .words) = omega (arith, head-size) in
+      let v = ap (λ (m : ℕ). take m (drop w words)) e ∙ s .words-are in
+      λ i. brought ((r .code ∙ s .code) i) ((r .a ∙ s .a) i) ((r .b ∙ s .b) i) (v i)
+
+module _ {heads words rack₀ rack out₀ out : List ℕ} {n k w at : ℕ} (g : Going heads words n rack₀ rack out₀ out k w at) where
   -- while k is below n, a change is left
   pub record Turn : Type 0 where
     pub change : Change
@@ -93,46 +107,72 @@ module _ {heads words : List ℕ} {n : ℕ} {rack₀ rack out₀ out : List ℕ}
     pub are : g .rest ≡ change ∷ later
     pub next : StoredChange heads words k w change
 
-  next-of : (c : Change) (cs : List Change) → g .rest ≡ c ∷ cs → StoredChange heads words k w c
-  unfolding texts
-  next-of c cs e =
-      let h : drop (4 * k) heads ≡ headOf c ++ (texts headOf cs ++ g .heads-rest) =
-      g .heads-are ∙ ap (λ (l : List Change). texts headOf l ++ g .heads-rest) e in
-      let v : drop w words ≡ c .words ++ (texts wordsOf cs ++ g .words-rest) =
-      g .words-are ∙ ap (λ (l : List Change). texts wordsOf l ++ g .words-rest) e ∙ append-assoc (c .words) (texts wordsOf cs) (g .words-rest) in
-      record {
-        code = ap (λ (j : ℕ). getD heads j 0) (sym (add-zero (4 * k))) ∙ sym (getD-drop (4 * k) heads 0 0) ∙ ap (λ (l : List ℕ). getD l 0 0) h;
-        a = sym (getD-drop (4 * k) heads 1 0) ∙ ap (λ (l : List ℕ). getD l 1 0) h;
-        b = sym (getD-drop (4 * k) heads 2 0) ∙ ap (λ (l : List ℕ). getD l 2 0) h;
-        size = sym (getD-drop (4 * k) heads 3 0) ∙ ap (λ (l : List ℕ). getD l 3 0) h;
-        words-are = ap (take (length (c .words))) v ∙ take-at (c .words) (texts wordsOf cs ++ g .words-rest) (length (c .words)) refl;
-        heads-within = omega (arith, length-drop (4 * k) heads, ap length h, length-append (headOf c) (texts headOf cs ++ g .heads-rest));
-        words-within = omega (arith, g .within, length-drop w words, ap length v, length-append (c .words) (texts wordsOf cs ++ g .words-rest));
-      }
+  -- the heads and the words that are left begin with those of the first change that is left
+  module _ {c : Change} {cs : List Change} (e : g .rest ≡ c ∷ cs) where
+    heads-split : drop (4 * k) heads ≡ headOf c ++ (texts headOf cs ++ g .heads-rest)
+    unfolding texts
+    heads-split = g .heads-are ∙ ap (λ (l : List Change). texts headOf l ++ g .heads-rest) e
+
+    words-split : drop w words ≡ c .words ++ (texts wordsOf cs ++ g .words-rest)
+    unfolding texts
+    words-split =
+        g .words-are
+        ∙ ap (λ (l : List Change). texts wordsOf l ++ g .words-rest) e
+        ∙ append-assoc (c .words) (texts wordsOf cs) (g .words-rest)
+
+    next-of : StoredChange heads words k w c
+    next-of =
+        let h = heads-split in
+        let v = words-split in
+        let nth : (j : ℕ) → getD heads (4 * k + j) 0 ≡ getD (headOf c ++ (texts headOf cs ++ g .heads-rest)) j 0 =
+        λ j. sym (getD-drop (4 * k) heads j 0) ∙ ap (λ (l : List ℕ). getD l j 0) h in
+        record {
+          code = ap (λ (j : ℕ). getD heads j 0) (sym (add-zero (4 * k))) ∙ nth 0;
+          a = nth 1;
+          b = nth 2;
+          size = nth 3;
+          words-are = ap (take (length (c .words))) v ∙ take-at (c .words) _ (length (c .words)) refl;
+          heads-within = omega (arith, length-drop (4 * k) heads, ap length h, length-append (headOf c) (texts headOf cs ++ g .heads-rest));
+          words-within = omega (arith, g .within, length-drop w words, simp length-append at (ap length v));
+        }
 
   pub turn-of : k < n → Turn
   turn-of h = go (g .rest) refl
     where
       go : (l : List Change) → g .rest ≡ l → Turn
       go [] e = absurd (omega (arith, g .left, ap length e))
-      go (c ∷ cs) e = record { change = c; later = cs; are = e; next = next-of c cs e }
+      go (c ∷ cs) e = record { change = c; later = cs; are = e; next = next-of e }
+
+  -- what is written fits
+  done-within : length (g .done) ≤ length out₀
+  done-within = omega (arith, g .wrote .count, g .room)
+
+  -- there is room for the ending
+  pub ending-room : at + endingRoom ≤ length out
+  ending-room = omega (arith, g .room, put-length (g .wrote) done-within)
 
   module _ (t : Turn) where
     -- there is room for a line, and for the ending after it
-    pub going-room : at + answerRoom + endingRoom ≤ length out₀
-    going-room = omega (arith, g .room, ap length (t .are))
+    pub line-room : at + answerRoom + endingRoom ≤ length out
+    line-room = omega (arith, g .room, ap length (t .are), put-length (g .wrote) done-within)
 
     -- the change was made, and its line written
-    pub going-turn : {now last : List ℕ} {m size : ℕ} → size ≡ length (t .change .words) → now ≡ write (change base (read rack) (t .change) .state)
-        → Put (answerLine (change base (read rack) (t .change) .answer)) (part at out) last m
-        → Going heads words n rack₀ now out₀ (back at out last) (k + 1) (w + size) (at + m)
+    pub going-turn : {h : Head} {now last : List ℕ} {m : ℕ} → HeadAt heads k h
+        → let x = change base (read rack) (brought (h .code) (h .a) (h .b) (take (w + h .count - w) (drop w words))) in
+        (now ≡ write (x .state)) × Put (answerLine (x .answer)) (part at out) last m
+        → Going heads words n rack₀ now out₀ (back at out last) (k + 1) (w + h .count) (at + m)
     unfolding texts after changesText
-    going-turn {now} {last} {m} {size} z e p =
+    going-turn {now = now} {m = m} r made =
         let c : Change = t .change in
         let s : State = read rack in
+        let is = head-brings (t .next) r in
+        let z = head-size (t .next) r in
+        let e : now ≡ write (change base s c .state) = made .0 ∙ ap (λ (x : Change). write (change base s x .state)) is in
+        let line : List ℕ = answerLine (change base s c .answer) in
+        let p = put-as _ line (ap (λ (x : Change). answerLine (change base s x .answer)) is) (made .1) in
         let (ok, b) = sounded-read now (change base s c .state) e (step s (g .sounded .valid) c .valid) in
-        let line = answerLine (change base s c .answer) in
         let four : 4 * (k + 1) ≡ 4 * k + 4 = omega arith in
+        let few : m ≤ answerRoom = omega (arith, p .count, answer-most _ (valid-figures s c (g .sounded .valid))) in
         record {
           changes = g .changes;
           kept = g .kept;
@@ -141,26 +181,23 @@ module _ {heads words : List ℕ} {n : ℕ} {rack₀ rack out₀ out : List ℕ}
           left = omega (arith, g .left, ap length (t .are));
           within = omega (arith, z, t .next .words-within);
           heads-rest = g .heads-rest;
-          heads-are =
-              ap (λ (j : ℕ). drop j heads) four
-              ∙ sym (drop-drop 4 (4 * k) heads)
-              ∙ ap (drop 4) (g .heads-are ∙ ap (λ (l : List Change). texts headOf l ++ g .heads-rest) (t .are));
+          heads-are = ap (λ (j : ℕ). drop j heads) four ∙ sym (drop-drop 4 (4 * k) heads) ∙ ap (drop 4) (heads-split (t .are));
           words-rest = g .words-rest;
           words-are =
               ap (λ (j : ℕ). drop (w + j) words) z
               ∙ sym (drop-drop (length (c .words)) w words)
-              ∙ ap (drop (length (c .words))) (g .words-are ∙ ap (λ (l : List Change). texts wordsOf l ++ g .words-rest) (t .are) ∙ append-assoc (c .words) (texts wordsOf (t .later)) (g .words-rest))
-              ∙ drop-at (c .words) (texts wordsOf (t .later) ++ g .words-rest) (length (c .words)) refl;
+              ∙ ap (drop (length (c .words))) (words-split (t .are))
+              ∙ drop-at (c .words) _ (length (c .words)) refl;
           sounded = ok;
           leaves = g .leaves ∙ ap (after base s) (t .are) ∙ ap (λ (x : State). after base x (t .later)) (sym b);
           done = g .done ++ line;
-          wrote = put-then (g .wrote) p (omega (arith, g .wrote .count, g .room));
+          wrote = put-then (g .wrote) p done-within;
           whole =
               g .whole
               ∙ ap (λ (l : List Change). g .done ++ changesText base s l) (t .are)
               ∙ sym (append-assoc (g .done) line (changesText base (change base s c .state) (t .later)))
               ∙ ap (λ (x : State). (g .done ++ line) ++ changesText base x (t .later)) (sym b);
-          room = omega (arith, g .room, ap length (t .are), p .count, answer-most (change base s c .answer) (valid-figures s c (g .sounded .valid)));
+          room = omega (arith, g .room, ap length (t .are), few);
         }
 
   -- nothing is left
@@ -172,15 +209,19 @@ module _ {heads words : List ℕ} {n : ℕ} {rack₀ rack out₀ out : List ℕ}
       go (c ∷ cs) e = absurd (omega (arith, g .left, ap length e, h))
 
   -- the lines after those of the changes were written
-  pub going-end : {last : List ℕ} {m : ℕ} → n ≤ k → Put (endingText (read rack)) (part at out) last m
-      → Played heads words n rack₀ rack out₀ (back at out last) (at + m)
-  unfolding after changesText endingText
-  going-end {last} {m} h p =
-      let e = rest-none h in
-      record {
-        changes = g .changes;
-        kept = g .kept;
-        count = g .count;
-        leaves = g .sounded .written ∙ ap write (sym (g .leaves ∙ ap (after base (read rack)) e));
-        prints = put-as _ _ (sym (g .whole ∙ ap (λ (l : List Change). g .done ++ changesText base (read rack) l) e)) (put-then (g .wrote) p (omega (arith, g .wrote .count, g .room)));
-      }
+  module _ {last : List ℕ} {m : ℕ} (p : Put (endingText (read rack)) (part at out) last m) where
+    pub end-within : at + m ≤ length out₀
+    end-within = omega (arith, g .room, p .count, ending-most (read rack) (g .sounded .valid))
+
+    pub going-end : n ≤ k → Played heads words n rack₀ rack out₀ (back at out last) (at + m)
+    unfolding after changesText endingText
+    going-end h =
+        let e = rest-none h in
+        let whole = g .whole ∙ ap (λ (l : List Change). g .done ++ changesText base (read rack) l) e in
+        record {
+          changes = g .changes;
+          kept = g .kept;
+          count = g .count;
+          leaves = g .sounded .written ∙ ap write (sym (g .leaves ∙ ap (after base (read rack)) e));
+          prints = put-as _ _ (sym whole) (put-then (g .wrote) p done-within);
+        }

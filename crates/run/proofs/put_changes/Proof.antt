@@ -1,18 +1,14 @@
 -- `run::put_changes` meets its contract. The invariant is `Going` of `Turns`. Assumes nothing.
-use mathlib.Core.Path.{_≡_, sym, ap, _∙_}
-use Prim.Native.Nat.{ℕ, _+_, _-_, _≤_}
+use mathlib.Core.Path.{_≡_, sym, _∙_}
+use Prim.Native.Nat.{_+_, _-_, _≤_}
 use native.Mathlib.Omega.{arith}
-use lib.ListN.{length, take, drop}
-use Rattle.model.specs.State.{base}
-use Rattle.model.specs.Bytes.{read, write}
-use Rattle.model.specs.Change.{Change, change}
-use Rattle.model.specs.Record.{answerLine}
-use Rattle.text.proofs.Over.{back, put-as, put-kept, length-part}
+use lib.ListN.{length}
+use Rattle.text.proofs.Over.{put-kept, length-part}
+use Rattle.record.specs.Line.{answerRoom}
 use Rattle.moves.proofs.Held.{held-sized}
-use Rattle.changes.specs.Sounded.{brought}
 use Rattle.changes.proofs.Wholes.{sounded-held}
 use Rattle.run.specs.Recording.{endingRoom}
-use Rattle.run.proofs.Turns.{ending-most, Going, going-start, Turn, turn-of, going-room, going-turn, going-end}
+use Rattle.run.proofs.Turns.{Going, going-start, Turn, turn-of, head-size, line-room, going-turn, ending-room, end-within, going-end}
 use borrow.Author.Needs.{needs}
 use Rattle.run.proofs.put_changes.Statement.{statement}
 use Rattle.run.proofs.put_changes.Tie as tie
@@ -23,34 +19,46 @@ Inv-loop rack₀ heads words changes out₀ k₀ w₀ at₀ rack out k w at = Go
 abbrev μ-loop : tie.MeasureT-loop
 μ-loop rack₀ heads words changes out₀ k₀ w₀ at₀ rack out k w at = changes - k
 
+-- the places, each from an earlier one
+abbrev loop-start : tie.At-loop Inv-loop μ-loop → tie.Start Inv-loop μ-loop
+loop-start c = c .before .before .before .before .before
+
+abbrev head-loop : tie.After-struct-known Inv-loop μ-loop → tie.At-loop Inv-loop μ-loop
+head-loop c = c .before .before .before
+
+abbrev turn-head : tie.After-slice-known4 Inv-loop μ-loop → tie.After-struct-known Inv-loop μ-loop
+turn-head c = c .before .before .before .before .before .before .before .before
+
+abbrev end-loop : tie.After-slice-known5 Inv-loop μ-loop → tie.At-loop Inv-loop μ-loop
+end-loop c = c .before .before .before .before .before .before
+
 loop-holds : tie.Need-loop-holds Inv-loop μ-loop
-loop-holds c = going-start _ _ _ _ _ (c .before .before .before .before .pre .0) (c .before .before .before .before .pre .1)
+loop-holds c = let p = c .before .before .before .before .pre in going-start _ _ _ _ _ (p .0) (p .1)
 
 head-at-requires : tie.Need-head-at-requires Inv-loop μ-loop
 head-at-requires c κs = turn-of (c .before .loop .inv) (omega (arith, c .loop-test .taken)) .next .heads-within
 
 -- the change whose turn it is, and how many words it has
-turn : (c : tie.After-struct-known Inv-loop μ-loop) → Turn (c .before .before .before .loop .inv)
-turn c = turn-of (c .before .before .before .loop .inv) (omega (arith, c .before .before .loop-test .taken))
+turn : (c : tie.After-struct-known Inv-loop μ-loop) → Turn (head-loop c .loop .inv)
+turn c = turn-of (head-loop c .loop .inv) (omega (arith, c .before .before .loop-test .taken))
 
 size : (c : tie.After-struct-known Inv-loop μ-loop) → c .before .head-at .result .count ≡ length (turn c .change .words)
-size c = c .before .head-at .ensures .count ∙ turn c .next .size
+size c = head-size (turn c .next) (c .before .head-at .ensures)
 
 -- there is room for its answer
-room : (c : tie.After-struct-known Inv-loop μ-loop) → c .before .before .before .loop .at + 64 ≤ length (c .before .before .before .loop .out)
-room c =
-    let g = c .before .before .before .loop .inv in
-    let r = going-room g (turn c) in
-    omega (arith, r, put-kept (g .wrote) (omega (arith, r)))
+room : (c : tie.After-struct-known Inv-loop μ-loop) → head-loop c .loop .at + answerRoom ≤ length (head-loop c .loop .out)
+room c = omega (arith, line-room (head-loop c .loop .inv) (turn c))
 
 cast-end : tie.Need-cast-end Inv-loop μ-loop
 cast-end c = search needs
 
 add-end : tie.Need-add-end Inv-loop μ-loop
-add-end c = omega (arith, size c, turn c .next .words-within, c .before .before .before .before .before .before .before .before .good)
+add-end c = omega (arith, size c, turn c .next .words-within, loop-start (head-loop c) .good)
 
 mul-put-change : tie.Need-mul-put-change Inv-loop μ-loop
-mul-put-change c = omega (arith, size (c .before), turn (c .before) .next .words-within, c .before .before .before .before .before .before .before .before .before .good)
+mul-put-change c =
+    let d = c .before in
+    omega (arith, size d, turn d .next .words-within, loop-start (head-loop d) .good)
 
 sub-put-change : tie.Need-sub-put-change Inv-loop μ-loop
 sub-put-change c = omega arith
@@ -72,45 +80,28 @@ part-put-change-end-2 c = search needs
 
 put-change-requires : tie.Need-put-change-requires Inv-loop μ-loop
 put-change-requires c κs =
-    let l = c .before .before .before .before .before .before .loop in
-    (l .inv .sounded, omega (arith, room (c .before .before .before), length-part (l .at) (l .out)))
-
--- the change that was made is that one
-is : (c : tie.After-struct-known Inv-loop μ-loop)
-    → brought (c .before .head-at .result .code) (c .before .head-at .result .a) (c .before .head-at .result .b) (take (c .before .before .before .loop .w + c .before .head-at .result .count - c .before .before .before .loop .w) (drop (c .before .before .before .loop .w) (c .before .before .before .before .before .before .before .before .args .words .now)))
-    ≡ turn c .change
-is c =
-    let h = c .before .head-at .ensures in
-    let n = turn c .next in
-    let w = c .before .before .before .loop .w in
-    let e : w + c .before .head-at .result .count - w ≡ length (turn c .change .words) = omega (arith, size c) in
-    λ i. record { code = (h .code ∙ n .code) i; a = (h .a ∙ n .a) i; b = (h .b ∙ n .b) i; words = (ap (λ (m : ℕ). take m (drop w (c .before .before .before .before .before .before .before .before .args .words .now))) e ∙ n .words-are) i }
+    let d = c .before .before .before in
+    let l = head-loop d .loop in
+    (l .inv .sounded, omega (arith, room d, length-part (l .at) (l .out)))
 
 -- the state after the turn
-next : (c : tie.After-slice-known4 Inv-loop μ-loop)
-    → Going (c .before .before .before .before .before .before .before .before .before .before .before .before .before .before .before .before .args .heads .now) (c .before .before .before .before .before .before .before .before .before .before .before .before .before .before .before .before .args .words .now) (c .before .before .before .before .before .before .before .before .before .before .before .before .before .before .before .before .args .changes) (c .before .before .before .before .before .before .before .before .before .before .before .before .before .before .before .before .args .rack .now) (c .before .before .before .before .put-change .last .0) (c .before .before .before .before .before .before .before .before .before .before .before .before .before .before .before .before .args .out .now) (back (c .before .before .before .before .before .before .before .before .before .before .before .loop .at) (c .before .before .before .before .before .before .before .before .before .before .before .loop .out) (c .before .before .before .before .put-change .last .1 .1 .1 .1 .1 .0)) (c .before .before .before .before .before .before .before .before .before .before .before .loop .k + 1) (c .before .before .before .before .before .before .before .before .before .before .before .loop .w + c .before .before .before .before .before .before .before .before .before .head-at .result .count) (c .before .before .before .before .before .before .before .before .before .before .before .loop .at + c .before .before .before .before .put-change .result)
-next c =
-    let p = c .before .before .before .before .put-change .ensures in
-    let s = read (c .before .before .before .before .before .before .before .before .before .before .before .loop .rack) in
-    going-turn (c .before .before .before .before .before .before .before .before .before .before .before .loop .inv) (turn (c .before .before .before .before .before .before .before .before)) (size (c .before .before .before .before .before .before .before .before)) (p .0 ∙ ap (λ (x : Change). write (change base s x .state)) (is (c .before .before .before .before .before .before .before .before))) (put-as _ _ (ap (λ (x : Change). answerLine (change base s x .answer)) (is (c .before .before .before .before .before .before .before .before))) (p .1))
+loop-again : tie.Need-loop-again Inv-loop μ-loop
+loop-again c =
+    let d = turn-head c in
+    going-turn (head-loop d .loop .inv) (turn d) (d .before .head-at .ensures) (c .before .before .before .before .put-change .ensures)
 
 add-at : tie.Need-add-at Inv-loop μ-loop
-add-at c = omega (arith, next c .room, c .before .before .before .before .before .before .before .before .before .before .before .before .before .before .before .before .good)
+add-at c = omega (arith, loop-again c .room, loop-start (head-loop (turn-head c)) .good)
 
 add-k : tie.Need-add-k Inv-loop μ-loop
 add-k c = search needs
 
 loop-less : tie.Need-loop-less Inv-loop μ-loop
-loop-less c = omega (arith, c .before .before .before .before .before .before .before .before .before .before .loop-test .taken)
-
-loop-again : tie.Need-loop-again Inv-loop μ-loop
-loop-again c = next c
+loop-less c = omega (arith, turn-head c .before .before .loop-test .taken)
 
 -- there is room for the ending
 space : (c : tie.After-put-ending-arg Inv-loop μ-loop) → c .before .before .loop .at + endingRoom ≤ length (c .before .before .loop .out)
-space c =
-    let g = c .before .before .loop .inv in
-    omega (arith, g .room, put-kept (g .wrote) (omega (arith, g .room)))
+space c = ending-room (c .before .before .loop .inv)
 
 sub-put-ending : tie.Need-sub-put-ending Inv-loop μ-loop
 sub-put-ending c = omega (arith, space c)
@@ -126,23 +117,26 @@ put-ending-requires c κs =
     let l = c .before .before .before .loop in
     (l .inv .sounded, omega (arith, space (c .before), length-part (l .at) (l .out)))
 
+returns : tie.Need-returns Inv-loop μ-loop
+returns c =
+    let l = end-loop c in
+    going-end (l .loop .inv) (c .before .before .put-ending .ensures) (omega (arith, c .before .before .before .before .before .loop-test .left))
+
 -- how long it is
-ended : (c : tie.After-slice-known5 Inv-loop μ-loop) → c .before .before .before .before .before .before .loop .at + c .before .before .put-ending .result ≤ length (c .before .before .before .before .before .before .before .before .before .before .before .args .out .now)
-ended c =
-    let g = c .before .before .before .before .before .before .loop .inv in
-    omega (arith, g .room, c .before .before .put-ending .ensures .count, ending-most _ (g .sounded .valid))
+ended : (c : tie.After-slice-known5 Inv-loop μ-loop)
+    → end-loop c .loop .at + c .before .before .put-ending .result ≤ length (loop-start (end-loop c) .args .out .now)
+ended c = end-within (end-loop c .loop .inv) (c .before .before .put-ending .ensures)
 
 add-result : tie.Need-add-result Inv-loop μ-loop
-add-result c = omega (arith, ended c, c .before .before .before .before .before .before .before .before .before .before .before .good)
+add-result c = omega (arith, ended c, loop-start (end-loop c) .good)
 
 same-length : tie.Need-same-length Inv-loop μ-loop
-same-length c = held-sized (sounded-held _ (c .before .before .before .before .before .before .loop .inv .sounded)) ∙ sym (held-sized (sounded-held _ (c .before .before .before .before .before .before .before .before .before .before .before .pre .0)))
+same-length c =
+    let l = end-loop c in
+    held-sized (sounded-held _ (l .loop .inv .sounded)) ∙ sym (held-sized (sounded-held _ (loop-start l .pre .0)))
 
 same-length-2 : tie.Need-same-length-2 Inv-loop μ-loop
-same-length-2 c = put-kept (going-end (c .before .before .before .before .before .before .loop .inv) (omega (arith, c .before .before .before .before .before .loop-test .left)) (c .before .before .put-ending .ensures) .prints) (ended c)
-
-returns : tie.Need-returns Inv-loop μ-loop
-returns c = going-end (c .before .before .before .before .before .before .loop .inv) (omega (arith, c .before .before .before .before .before .loop-test .left)) (c .before .before .put-ending .ensures)
+same-length-2 c = put-kept (returns c .prints) (ended c)
 
 pub put-changes-spec : {M : Type 1} → statement M
 put-changes-spec =
