@@ -1,17 +1,42 @@
 -- `run::run` meets its contract. Assumes nothing.
-use mathlib.Core.Path.{_≡_, refl, sym, _∙_, subst}
+use mathlib.Core.Path.{_≡_, sym, _∙_, subst}
 use mathlib.Core.Bool.{true}
-use Prim.Native.Nat.{_≤_}
 use native.Mathlib.Omega.{arith}
-use lib.ListN.{length}
 use Rattle.model.specs.Calls.{sized}
 use Rattle.model.specs.Run.{rack-length, text-long, space-short, bad-line}
 use Rattle.engine.proofs.Numbers.{off, on}
 use Rattle.trace.specs.Check.{Checks}
-use Rattle.run.proofs.Whole.{ran-as, answer-of, recordable, took}
+use Rattle.run.proofs.Whole.{ran-back, Lent, recordable, took}
 use borrow.Author.Needs.{needs}
 use Rattle.run.proofs.run.Statement.{statement}
 use Rattle.run.proofs.run.Tie as tie
+
+-- the places, each from an earlier one
+abbrev else-start : tie.Else1 → tie.Start
+else-start c = c .before .before .before .before .before .before
+
+abbrev read-else : tie.After-read → tie.Else3
+read-else c = c .before .before .before .before .before
+
+abbrev bad-read : tie.After-line → tie.After-read
+bad-read c = c .before .before .before .before
+
+abbrev fits-read : tie.After-n → tie.After-read
+fits-read c = c .before .before .before .before
+
+abbrev call-fits : tie.After-taken-arg2 → tie.After-n
+call-fits c = c .before .before .before .before .before
+
+-- what holds where the lengths are tested
+sized-is : (c : tie.Else1) → sized (else-start c .args .rack .now) ≡ true
+sized-is c = sym (c .before .sized .ensures) ∙ on _ (c .if1 .left)
+
+lent : (c : tie.Else3) → let a = else-start (c .before .before) .args in Lent (a .rack .now) (a .text .now) (a .space .now)
+lent c = record {
+  whole = sized-is (c .before .before);
+  short = omega (arith, c .before .if2 .left);
+  wide = omega (arith, c .if3 .left);
+}
 
 sized-requires : tie.Need-sized-requires
 sized-requires c κs = search needs
@@ -25,7 +50,8 @@ same-length c = search needs
 returns : tie.Need-returns
 returns c =
     let r = c .turned-back .ensures in
-    ran-as (answer-of _ (r .0) (r .1) (r .2)) refl refl (rack-length (sym (c .before .before .sized .ensures) ∙ off _ (c .before .if1 .taken)))
+    let short = sym (c .before .before .sized .ensures) ∙ off _ (c .before .if1 .taken) in
+    ran-back (rack-length short) (omega (arith, r .0)) (omega (arith, r .1)) (omega (arith, r .2))
 
 turned-back-requires-2 : tie.Need-turned-back-requires-2
 turned-back-requires-2 c κs = search needs
@@ -36,7 +62,8 @@ same-length-2 c = search needs
 returns-2 : tie.Need-returns-2
 returns-2 c =
     let r = c .turned-back2 .ensures in
-    ran-as (answer-of _ (r .0) (r .1) (r .2)) refl refl (text-long (sym (c .before .before .before .sized .ensures) ∙ on _ (c .before .before .if1 .left)) (omega (arith, c .before .if2 .taken)))
+    ran-back (text-long (sized-is (c .before .before)) (omega (arith, c .before .if2 .taken)))
+    (omega (arith, r .0)) (omega (arith, r .1)) (omega (arith, r .2))
 
 turned-back-requires-3 : tie.Need-turned-back-requires-3
 turned-back-requires-3 c κs = search needs
@@ -47,12 +74,9 @@ same-length-3 c = search needs
 returns-3 : tie.Need-returns-3
 returns-3 c =
     let r = c .turned-back3 .ensures in
-    ran-as (answer-of _ (r .0) (r .1) (r .2)) refl refl
-    (space-short (sym (c .before .before .before .before .sized .ensures) ∙ on _ (c .before .before .before .if1 .left)) (omega (arith, c .before .before .if2 .left)) (omega (arith, c .before .if3 .taken)))
-
--- the lengths are those that a run takes
-good : (c : tie.Else3) → (sized (c .before .before .before .before .before .before .before .before .args .rack .now) ≡ true) × (length (c .before .before .before .before .before .before .before .before .args .text .now) ≤ 16384) × (65536 ≤ length (c .before .before .before .before .before .before .before .before .args .space .now))
-good c = (sym (c .before .before .before .sized .ensures) ∙ on _ (c .before .before .if1 .left), omega (arith, c .before .if2 .left), omega (arith, c .if3 .left))
+    let e = c .before .before in
+    ran-back (space-short (sized-is (e .before)) (omega (arith, e .if2 .left)) (omega (arith, c .before .if3 .taken)))
+    (omega (arith, r .0)) (omega (arith, r .1)) (omega (arith, r .2))
 
 heads-space-requires : tie.Need-heads-space-requires
 heads-space-requires c κs = search needs
@@ -67,7 +91,9 @@ slice-aggregate-read-2 : tie.Need-slice-aggregate-read-2
 slice-aggregate-read-2 c = search needs
 
 read-requires : tie.Need-read-requires
-read-requires c κs = (good (c .before .before .before .before) .1, omega (arith, c .before .before .before .heads-space .ensures), omega (arith, c .before .before .words-space .ensures))
+read-requires c κs =
+    let w = c .before .before in
+    (lent (w .before .before) .short, omega (arith, w .before .heads-space .ensures), omega (arith, w .words-space .ensures))
 
 enum-known-line : tie.Need-enum-known-line
 enum-known-line c = search needs
@@ -86,9 +112,9 @@ slice-aggregate-taken-2 c = search needs
 
 taken-requires : tie.Need-taken-requires
 taken-requires c κs =
-    let g = good (c .before .before .before .before .before .before .before .before .before .before .before .before .before .before) in
-    let h = subst (Checks _ _ _) (c .before .before .before .before .before .n .given .1) (c .before .before .before .before .before .before .before .before .before .read .ensures) in
-    (g .0, recordable (h .0) (h .1) (h .2) (h .3) (g .1) (g .2))
+    let f = call-fits c in
+    let g = lent (read-else (fits-read f)) in
+    (g .whole, recordable _ _ g (f .n .given .1) (fits-read f .read .ensures))
 
 same-length-4 : tie.Need-same-length-4
 same-length-4 c = search needs
@@ -96,8 +122,10 @@ same-length-4 c = search needs
 returns-4 : tie.Need-returns-4
 returns-4 c =
     let r = c .turned-back4 .ensures in
-    let g = good (c .before .before .before .before .before .before .before .before .before .before .before) in
-    ran-as (answer-of _ (r .0) (r .1) (r .2)) refl refl (bad-line (g .0) (g .1) (g .2) (subst (Checks _ _ _) (c .before .before .line .given .1) (c .before .before .before .before .before .before .read .ensures)))
+    let l = c .before .before in
+    let g = lent (read-else (bad-read l)) in
+    let bad = bad-line (g .whole) (g .short) (g .wide) (subst (Checks _ _ _) (l .line .given .1) (bad-read l .read .ensures)) in
+    ran-back bad (omega (arith, r .0)) (omega (arith, r .1)) (omega (arith, r .2))
 
 same-length-5 : tie.Need-same-length-5
 same-length-5 c = search needs
@@ -107,9 +135,9 @@ same-length-6 c = search needs
 
 returns-5 : tie.Need-returns-5
 returns-5 c =
-    let g = good (c .before .before .before .before .before .before .before .before .before .before .before .before .before .before .before .before .before .before .before) in
-    let h = subst (Checks _ _ _) (c .before .before .before .before .before .before .before .before .before .before .n .given .1) (c .before .before .before .before .before .before .before .before .before .before .before .before .before .before .read .ensures) in
-    took (h .0) (g .0) (g .1) (g .2) (h .1) (h .2) (h .3) (c .before .before .before .before .taken .ensures)
+    let t = c .before .before .before .before in
+    let f = call-fits (t .before) in
+    took _ _ (lent (read-else (fits-read f))) (f .n .given .1) (fits-read f .read .ensures) (t .taken .ensures)
 
 pub run-spec : {M : Type 1} → statement M
 run-spec =

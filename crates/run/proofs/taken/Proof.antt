@@ -1,12 +1,28 @@
 -- `run::taken` meets its contract. Assumes nothing.
-use mathlib.Core.Path.{refl, sym, _∙_, subst}
-use mathlib.Core.Bool.{Bool}
+use mathlib.Core.Path.{_≡_, refl}
+use mathlib.Core.Bool.{true}
 use native.Mathlib.Omega.{arith}
-use Rattle.run.specs.Recording.{Took, told}
-use Rattle.run.proofs.Whole.{made-none, made-new, answer-of}
+use Rattle.model.specs.State.{empty}
+use Rattle.model.specs.Bytes.{write}
+use Rattle.model.specs.Sound.{sizeGood}
+use Rattle.run.proofs.Whole.{made-none, made-new, took-none, took-record}
 use borrow.Author.Needs.{needs}
 use Rattle.run.proofs.taken.Statement.{statement}
 use Rattle.run.proofs.taken.Tie as tie
+
+-- the places, each from an earlier one
+abbrev make-start : tie.After-make → tie.Start
+make-start c = c .before .before .before .before .before .before
+
+abbrev else-make : tie.Else1 → tie.After-make
+else-make c = c .before .before .before
+
+abbrev record-else : tie.After-put-record → tie.Else1
+record-else c = c .before .before .before
+
+-- the rack was made
+rack-made : (c : tie.Else1) → let a = make-start (else-make c) .args in (sizeGood (a .n) ≡ true) × (else-make c .make .last .0 ≡ write (empty (a .n)))
+rack-made c = let m = else-make c in made-new _ _ (make-start m .pre .0) (m .make .ensures) (c .if1 .left)
 
 make-requires : tie.Need-make-requires
 make-requires c κs = search needs
@@ -19,20 +35,13 @@ same-length c = search needs
 
 returns : tie.Need-returns
 returns c =
-    let p = c .before .before .before .before .before .before .before .before .before .before .pre in
-    let m = c .before .before .before .before .make .ensures in
-    let n = made-none _ _ (p .0) (λ z. c .before .if1 .taken (m .0 ∙ z)) in
+    let m = c .before .before .before .before in
+    let n = made-none _ _ (make-start m .pre .0) (m .make .ensures) (c .before .if1 .taken) in
     let r = c .turned-back .ensures in
-    let a = c .before .before .before .before .before .before .before .before .before .before .args in
-    subst (λ (b : Bool). Took b (a .heads .now) (a .words .now) (a .changes) (a .n) (a .rack .now) (a .space .now) (told (c .turned-back .result)) (c .before .before .before .before .make .last .0) (a .space .now)) (sym (n .0))
-    (answer-of _ (r .0) (omega (arith, r .1)) (r .2), m .1 ∙ n .1, refl)
+    took-none _ _ _ _ (n .0) (omega (arith, r .0)) (omega (arith, r .1)) (omega (arith, r .2)) (n .1) refl
 
 put-record-requires : tie.Need-put-record-requires
-put-record-requires c κs =
-    let p = c .before .before .before .before .before .before .before .before .before .before .before .pre in
-    let m = c .before .before .before .before .before .make .ensures in
-    let n = made-new _ _ (p .0) (sym (m .0) ∙ c .before .before .if1 .left) in
-    ((n .0, m .1 ∙ n .1), p .1)
+put-record-requires c κs = let e = c .before .before in (rack-made e, make-start (else-make e) .pre .1)
 
 same-length-2 : tie.Need-same-length-2
 same-length-2 c = search needs
@@ -42,13 +51,8 @@ same-length-3 c = search needs
 
 returns-2 : tie.Need-returns-2
 returns-2 c =
-    let p = c .before .before .before .before .before .before .before .before .before .before .before .before .before .before .before .before .pre in
-    let m = c .before .before .before .before .before .before .before .before .before .before .make .ensures in
-    let n = made-new _ _ (p .0) (sym (m .0) ∙ c .before .before .before .before .before .before .before .if1 .left) in
-    let a = c .before .before .before .before .before .before .before .before .before .before .before .before .before .before .before .before .args in
-    let r = c .before .before .before .before .put-record in
-    subst (λ (b : Bool). Took b (a .heads .now) (a .words .now) (a .changes) (a .n) (a .rack .now) (a .space .now) (record { number = 0; line = 0; length = r .result }) (r .last .0) (r .last .1 .1 .1 .1 .1 .0)) (sym (n .0))
-    (refl, refl, r .ensures)
+    let r = c .before .before .before .before in
+    took-record _ (rack-made (record-else r) .0) refl refl (r .put-record .ensures)
 
 pub taken-spec : {M : Type 1} → statement M
 taken-spec = tie.close (tie.spec make-requires turned-back-requires same-length returns put-record-requires same-length-2 same-length-3 returns-2)
