@@ -20,9 +20,11 @@ use Rattle.model.specs.Record.{after, recordText}
 use Rattle.model.specs.Run.{Ran, rack-length, text-long, space-short, bad-line, bad-size, ran, RunAnswer, turnedBack, longest, spaceLength, badLine, output}
 use Rattle.model.proofs.Tests.{eqb-yes, eqb-no, leb-yes, leb-no}
 use Rattle.text.specs.Writing.{Put}
+use Rattle.text.proofs.Over.{put-as}
 use Rattle.trace.proofs.Whole.{trace-same, trace-fits, first-bad-same, first-bad-within}
 use Rattle.trace.proofs.Decide.{fits-or-bad}
 use Rattle.trace.proofs.RecordFits.{record-fits-base}
+use Rattle.run.specs.Recording.{Shown}
 use Rattle.run.proofs.Whole.{size-range}
 
 -- what a run answers, and the bytes of rack and space after it
@@ -47,8 +49,12 @@ module _ (R : Rules) (rack text space : List ℕ) where
   sizes t true = recorded t
   sizes t false = back 5 0
 
+  -- the text holds a trace, or it has a first line that doesn't fit
+  abbrev Decided : Type 0
+  Decided = ((t : Trace) × Holds text t) ⊎ ((k : ℕ) × FirstBad (linesOf text) k)
+
   -- by the text: the record of its trace, or 5, or 4 with its first line that doesn't fit
-  read : ((t : Trace) × Holds text t) ⊎ ((k : ℕ) × FirstBad (linesOf text) k) → Outcome
+  read : Decided → Outcome
   read (inl (t, h)) = sizes t (sizeGood (t .n))
   read (inr (k, h)) = back 4 k
 
@@ -63,13 +69,12 @@ module _ (R : Rules) (rack text space : List ℕ) where
   abbrev outcome : Outcome
   outcome = chosen (sized rack) (ltb longest (length text)) (ltb (length space) spaceLength) (read (fits-or-bad text))
 
-  read-holds : (d : ((t : Trace) × Holds text t) ⊎ ((k : ℕ) × FirstBad (linesOf text) k)) (t : Trace) → Holds text t
-      → read d ≡ sizes t (sizeGood (t .n))
+  read-holds : (d : Decided) (t : Trace) → Holds text t → read d ≡ sizes t (sizeGood (t .n))
   unfolding read
   read-holds (inl (u, g)) t h = ap (λ (x : Trace). sizes x (sizeGood (x .n))) (trace-same text u t g h)
   read-holds (inr (k, b)) t h = absurd (trace-fits text t k h b)
 
-  read-bad : (d : ((t : Trace) × Holds text t) ⊎ ((k : ℕ) × FirstBad (linesOf text) k)) (k : ℕ) → FirstBad (linesOf text) k → read d ≡ back 4 k
+  read-bad : (d : Decided) (k : ℕ) → FirstBad (linesOf text) k → read d ≡ back 4 k
   unfolding read
   read-bad (inl (t, h)) k b = absurd (trace-fits text t k h b)
   read-bad (inr (j, a)) k b = ap (back 4) (first-bad-same (linesOf text) j k a b)
@@ -97,7 +102,8 @@ module _ (R : Rules) (rack text space : List ℕ) where
   is (ran {t} z s w h e) = taken z s w ∙ read-holds (fits-or-bad text) t h ∙ ap (sizes t) e
 
   -- two runs of the same bytes answer the same and leave the same
-  pub ran-once : {a b : RunAnswer} {x y u v : List ℕ} → Ran R rack text space a x y → Ran R rack text space b u v → (a ≡ b) × (x ≡ u) × (y ≡ v)
+  pub ran-once : {a b : RunAnswer} {x y u v : List ℕ} → Ran R rack text space a x y → Ran R rack text space b u v
+      → (a ≡ b) × (x ≡ u) × (y ≡ v)
   ran-once g h =
       let e = sym (is g) ∙ is h in
       (ap (λ (o : Outcome). o .answer) e, ap (λ (o : Outcome). o .rack) e, ap (λ (o : Outcome). o .space) e)
@@ -112,7 +118,7 @@ module _ (R : Rules) (rack text space : List ℕ) where
   line-few (ran z s w h e) = omega arith
 
 -- the record that an answer tells of fits its space
-pub length-few : {rack text space : List ℕ} {a : RunAnswer} {x y : List ℕ} → Ran base rack text space a x y → a .length ≤ spaceLength
+length-few : {rack text space : List ℕ} {a : RunAnswer} {x y : List ℕ} → Ran base rack text space a x y → a .length ≤ spaceLength
 length-few (rack-length z) = omega arith
 length-few (text-long z s) = omega arith
 length-few (space-short z s w) = omega arith
@@ -124,16 +130,8 @@ length-few (ran {t} z s w h e) =
 
 -- What is printed.
 
-pub output-ran : (a : RunAnswer) (space : List ℕ) → a .number ≡ 0 → output a space ≡ take (a .length) space
-unfolding output
-output-ran a space e = rw (eqb-yes (a .number) 0 e, output) refl
-
-pub output-back : (a : RunAnswer) (space : List ℕ) → a .number ≢ 0 → output a space ≡ badLine (a .number) (a .line)
-unfolding output
-output-back a space e = rw (eqb-no (a .number) 0 e, output) refl
-
 -- what stands at the start is as good as written there again
-pub put-front-again : (space p : List ℕ) {r : ℕ} → p ≡ take r space → r ≤ length space → Put p space space r
+put-front-again : (space p : List ℕ) {r : ℕ} → p ≡ take r space → r ≤ length space → Put p space space r
 unfolding over
 put-front-again space p {r} e h = record {
   count = sym (length-take-le r space h) ∙ ap length (sym e);
@@ -143,6 +141,21 @@ put-front-again space p {r} e h = record {
       ∙ ap (λ (j : ℕ). take r space ++ drop (0 + j) space) (sym (length-take-le r space h) ∙ ap length (sym e))
       ∙ ap (λ (l : List ℕ). l ++ drop (0 + length p) space) (sym e);
 }
+
+-- the record stands there already, or the answer's line was put there
+module _ {rack text old last space : List ℕ} {a : RunAnswer} (h : Ran base rack text old a last space) where
+  pub shown-record : a .number ≡ 0 → spaceLength ≤ length space → Shown rack text old last space (a .length)
+  unfolding output
+  shown-record e wide =
+      let is : output a space ≡ take (a .length) space = rw (eqb-yes (a .number) 0 e, output) refl in
+      let within : a .length ≤ length space = omega (arith, length-few h, wide) in
+      record { answer = a; space = space; ran = h; prints = put-front-again space (output a space) is within }
+
+  pub shown-back : {new : List ℕ} {r : ℕ} → a .number ≢ 0 → Put (badLine (a .number) (a .line)) space new r → Shown rack text old last new r
+  unfolding output
+  shown-back e p =
+      let is : output a space ≡ badLine (a .number) (a .line) = rw (eqb-no (a .number) 0 e, output) refl in
+      record { answer = a; space = space; ran = h; prints = put-as _ (output a space) (sym is) p }
 
 pub put-within : {p old new : List ℕ} {r : ℕ} → Put p old new r → r ≤ length new
 unfolding over

@@ -27,7 +27,6 @@ use Rattle.model.proofs.Lists.{listed-texts}
 use Rattle.model.proofs.Reading.{read-write}
 use Rattle.theory.specs.Demand.{lastRack, isPair, pairsOf, Mates, Call, Calls, Facts, Demand}
 use Rattle.theory.proofs.ChangeStep.{ledger}
-use Rattle.theory.proofs.Matching.{base-pos, empty-valid}
 use Rattle.theory.proofs.OnBytes.{step, call-leaves, pairs-of}
 use Rattle.theory.proofs.LastRack.{last-facts}
 use Rattle.theory.proofs.ListTheorem.{next-ledger, from-valid}
@@ -40,7 +39,7 @@ use Rattle.run.specs.Recording.{pairPart, told}
 use Rattle.run.specs.declared.RunAnswer.{RunAnswer}
 use Rattle.run.specs.RunDemand.{freshLedger, answerBy, changesBy, pairsBy, endingBy, RunDemand}
 use Rattle.run.proofs.Pairs.{shown, left-out, part-free, part-upper, part-line}
-use Rattle.run.proofs.Whole.{size-range}
+use Rattle.run.proofs.Whole.{empty-good}
 
 -- A change's line is the ledger's: refused, it shows the number alone, and accepted, its pairs are the ledger's.
 line-by : {l : Ledger} {bs : List ℕ} {c : Change} {d : ChangedBytes} → Call l bs c d → answerLine (d .answer) ≡ answerLine (answerBy l c d)
@@ -90,13 +89,13 @@ module _ (l : Ledger) (bs : List ℕ) (ok : Sounded bs) (F : Facts l bs) where
   lines-of v b =
       let c : v < read bs .n = omega (arith, size-is) in
       elim (eq? (mateAt bs v) 65535) [
-        | inl e ↦ part-free bs ok v c e
+        | inl e ↦ part-free ok c e
             ∙ sym (each-none (line v) (l .n) (λ w k. none v w (λ t. omega (arith, mate-of v w t .1, size-is, ok .valid .few))))
         | inr d ↦ elim (le? (mateAt bs v) v) [
-          | inl h ↦ part-upper bs ok v c h ∙ sym (each-none (line v) (l .n) (λ w k. none v w (λ t. omega (arith, mate-of v w t))))
+          | inl h ↦ part-upper ok c h ∙ sym (each-none (line v) (l .n) (λ w k. none v w (λ t. omega (arith, mate-of v w t))))
           | inr h ↦
               let t = pair-of v b d h in
-              part-line bs ok v c d h
+              part-line ok c d h
               ∙ sym (shown (isPair l bs v (mateAt bs v)) _ t)
               ∙ sym (each-only (line v) (mateAt bs v) (l .n) (F .inside v (mateAt bs v) (F .mates v b d .linked) .1)
               (λ w k ne. none v w (λ u. ne (sym (mate-of v w u .1)))))
@@ -147,18 +146,18 @@ changes-by s ok (c ∷ cs) =
 run-demand : (t : Trace) → sizeGood (t .n) ≡ true → RunDemand t (write (after base (empty (t .n)) (t .changes))) (recordText base t)
 unfolding recordText freshLedger empty edge
 run-demand t e =
-    let r = size-range (t .n) e in
-    let ok : Valid base (empty (t .n)) = empty-valid base base-pos (t .n) (r .0) (r .1) in
+    let ok = empty-good (t .n) e in
     let D : Demand (freshLedger (t .n)) (write (empty (t .n))) (t .changes) = from-valid (empty (t .n)) ok (t .changes) in
     let left = last-by (empty (t .n)) ok (t .changes) in
     let book : Ledger = enteredAll (freshLedger (t .n)) (t .changes) in
+    let lines : List ℕ = changesBy (freshLedger (t .n)) (write (empty (t .n))) (t .changes) in
     record {
       demand = D;
       left = left;
       facts = subst (Facts book) (sym left) (D .last);
       says =
           ap (λ (x : List ℕ). rackLine (t .n) ++ x) (changes-by (empty (t .n)) ok (t .changes))
-          ∙ ap (λ (x : List ℕ). rackLine (t .n) ++ (changesBy (freshLedger (t .n)) (write (empty (t .n))) (t .changes) ++ endingBy book x)) (sym left);
+          ∙ ap (λ (x : List ℕ). rackLine (t .n) ++ (lines ++ endingBy book x)) (sym left);
     }
 
 -- what stands at the start of the space after a run

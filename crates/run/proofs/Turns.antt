@@ -11,19 +11,20 @@ use Rattle.model.specs.State.{State, base}
 use Rattle.model.specs.Bytes.{read, write}
 use Rattle.model.specs.Valid.{Valid}
 use Rattle.model.specs.Text.{texts}
-use Rattle.model.specs.Change.{Change, change}
+use Rattle.model.specs.Change.{Change, Answer, change}
 use Rattle.model.specs.Record.{pairLines, endLine, answerLine, after, changesText}
 use Rattle.model.proofs.Reading.{read-write}
 use Rattle.theory.proofs.OnBytes.{step}
 use Rattle.text.specs.Writing.{Put}
 use Rattle.text.proofs.Over.{part, back, put-as, put-none, put-then, put-length}
 use Rattle.text.proofs.Answers.{answer-most}
-use Rattle.record.specs.Line.{answerRoom}
+use Rattle.record.specs.Line.{answerRoom, answered}
 use Rattle.trace.specs.Check.{headOf, wordsOf, HeadAt, Kept}
 use Rattle.trace.specs.declared.Head.{Head}
 use Rattle.trace.proofs.Bound.{pairs-most, end-most}
 use Rattle.trace.proofs.RecordFits.{valid-small, valid-figures}
-use Rattle.changes.specs.Sounded.{Sounded, brought}
+use Rattle.changes.specs.declared.Answer.{Answer as Answered}
+use Rattle.changes.specs.Sounded.{Sounded, Answers, brought}
 use Rattle.changes.proofs.Answered.{sounded-of}
 use Rattle.run.specs.Recording.{endingRoom, endingText, Ready, Played}
 
@@ -31,8 +32,13 @@ use Rattle.run.specs.Recording.{endingRoom, endingText, Ready, Played}
 pub sounded-read : (bs : List ℕ) (s : State) → bs ≡ write s → Valid base s → Sounded bs × (read bs ≡ s)
 sounded-read bs s e ok = (sounded-of bs s e ok, ap read e ∙ read-write base s ok)
 
+-- an answer's line was written by figures that are the answer's
+pub line-as : {r : Answered} {x : Answer} {old new : List ℕ} {k : ℕ} → Answers r x
+    → Put (answerLine (answered (r .number) (r .draws) (r .falls) (r .pairs))) old new k → Put (answerLine x) old new k
+line-as a w = put-as _ _ (λ i. answerLine (answered (a .number i) (a .draws i) (a .falls i) (a .pairs i))) w
+
 -- the lines after those of the changes have room
-pub ending-most : (s : State) → Valid base s → length (endingText s) ≤ endingRoom
+ending-most : (s : State) → Valid base s → length (endingText s) ≤ endingRoom
 unfolding endingText
 ending-most s ok =
     let h = valid-small s ok in

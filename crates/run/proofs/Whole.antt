@@ -34,11 +34,16 @@ use Rattle.run.proofs.Turns.{sounded-read}
 -- "n is 1 to 256"
 pub size-range : (n : ℕ) → sizeGood n ≡ true → (1 ≤ n) × (n ≤ most)
 unfolding sizeGood
-size-range n e = (leb→le 1 n (and-left (leb 1 n) (leb n most) (true-T e)), leb→le n most (and-right (leb 1 n) (leb n most) (true-T e)))
+size-range n e =
+    let t = true-T e in
+    (leb→le 1 n (and-left (leb 1 n) (leb n most) t), leb→le n most (and-right (leb 1 n) (leb n most) t))
+
+pub empty-good : (n : ℕ) → sizeGood n ≡ true → Valid base (empty n)
+empty-good n e = let r = size-range n e in empty-valid base base-pos n (r .0) (r .1)
 
 -- the rack just made
 pub fresh : (bs : List ℕ) (n : ℕ) → sizeGood n ≡ true → bs ≡ write (empty n) → Sounded bs × (read bs ≡ empty n)
-fresh bs n e w = let r = size-range n e in sounded-read bs (empty n) w (empty-valid base base-pos n (r .0) (r .1))
+fresh bs n e w = sounded-read bs (empty n) w (empty-good n e)
 
 -- line 1 was printed, where there is room for the record
 module _ {heads words old w : List ℕ} {c n k : ℕ} (t : Recordable heads words c n (length old)) (p : Put (rackLine n) old w k) where
@@ -75,14 +80,13 @@ pub record-within : {heads words last old new : List ℕ} {c n r : ℕ} → size
     → (w : Written heads words c n last old new r) → r ≤ length old
 unfolding recordText
 record-within {n = n} e t w =
-    let s = size-range n e in
     omega (
       arith,
       t .enough,
       w .count,
       w .prints .count,
       length-append (rackLine n) (changesText base (empty n) (w .changes)),
-      changes-most base (Valid base) bounded (empty n) (w .changes) (empty-valid base base-pos n (s .0) (s .1)),
+      changes-most base (Valid base) bounded (empty n) (w .changes) (empty-good n e),
     )
 
 -- Making: n is one of the paper's board numbers, or it isn't.
@@ -138,7 +142,8 @@ module _ {rack text space : List ℕ} (heads words : List ℕ) {c n : ℕ} {x : 
   recordable =
       let (cs, holds, count, kept) = checked in
       let short = subst (λ (l : List ℕ). length l ≤ longest) (holds .printed) (g .short) in
-      record { changes = cs; kept = kept; count = count; enough = omega (arith, count, g .wide, space-enough (record { n = n; changes = cs }) short) }
+      let enough = space-enough (record { n = n; changes = cs }) short in
+      record { changes = cs; kept = kept; count = count; enough = omega (arith, count, g .wide, enough) }
 
   -- 5, or its record
   pub took : {a : RunAnswer} {last new : List ℕ} → Took (sizeGood n) heads words c n rack space a last new → Ran base rack text space a last new

@@ -1,7 +1,5 @@
 -- `run::put_change` meets its contract. Assumes nothing.
-use Rattle.model.specs.Record.{answerLine}
-use Rattle.text.proofs.Over.{put-as}
-use Rattle.record.specs.Line.{answered}
+use Rattle.run.proofs.Turns.{line-as}
 use borrow.Author.Needs.{needs}
 use Rattle.run.proofs.put_change.Statement.{statement}
 use Rattle.run.proofs.put_change.Tie as tie
@@ -21,8 +19,7 @@ same-length-2 c = search needs
 returns : tie.Need-returns
 returns c =
     let e = c .before .before .before .before .before .before .change .ensures in
-    let x = e .0 in
-    (e .1, put-as _ _ (λ i. answerLine (answered (x .number i) (x .draws i) (x .falls i) (x .pairs i))) (c .before .before .put-answer .ensures))
+    (e .1, line-as (e .0) (c .before .before .put-answer .ensures))
 
 pub put-change-spec : {M : Type 1} → statement M
 put-change-spec = tie.close (tie.spec change-requires put-answer-requires same-length same-length-2 returns)

@@ -1,34 +1,53 @@
 -- `run::put_ending` meets its contract. Assumes nothing.
-use mathlib.Core.Path.{sym, ap, _∙_}
+use mathlib.Core.Path.{_≡_, sym, ap, _∙_}
 use mathlib.Core.List.{List, _++_}
 use Prim.Native.Nat.{ℕ, _+_, _≤_}
 use native.Mathlib.Omega.{arith}
 use lib.ListN.{length}
+use Rattle.model.specs.State.{State}
 use Rattle.model.specs.Bytes.{read}
-use Rattle.model.specs.Record.{pairLines}
-use Rattle.record.specs.Line.{endText}
+use Rattle.model.specs.Record.{pairLines, endLine}
+use Rattle.record.specs.Line.{endRoom, endText}
 use Rattle.record.proofs.Laws.{end-line}
 use Rattle.text.proofs.Over.{put-as, put-then, put-kept, length-part}
-use Rattle.trace.proofs.Bound.{pairs-most, end-most}
+use Rattle.trace.proofs.Bound.{Small, pairs-most, end-most}
 use Rattle.trace.proofs.RecordFits.{valid-small}
 use Rattle.run.specs.Recording.{endingText}
 use borrow.Author.Needs.{needs}
 use Rattle.run.proofs.put_ending.Statement.{statement}
 use Rattle.run.proofs.put_ending.Tie as tie
 
+-- the places, each from an earlier one
+abbrev lines-start : tie.After-put-pairs → tie.Start
+lines-start c = c .before .before .before .before
+
+abbrev pairs-lines : tie.After-pairs → tie.After-put-pairs
+pairs-lines c = c .before .before .before
+
+abbrev end-pairs : tie.After-slice-known3 → tie.After-pairs
+end-pairs c = c .before .before .before .before
+
+abbrev state : tie.After-put-pairs → State
+state c = read (lines-start c .args .rack .now)
+
+-- a valid state's lines are short
+small : (c : tie.After-put-pairs) → Small (state c)
+small c = valid-small _ (lines-start c .pre .0 .valid)
+
+lines-few : (c : tie.After-put-pairs) → c .put-pairs .result + endRoom ≤ length (lines-start c .args .out .now)
+lines-few c = omega (arith, lines-start c .pre .1, pairs-most (state c) (small c), c .put-pairs .ensures .count)
+
 put-pairs-requires : tie.Need-put-pairs-requires
 put-pairs-requires c κs = search needs
 
 pairs-requires : tie.Need-pairs-requires
-pairs-requires c κs = c .before .before .before .before .before .before .pre .0
+pairs-requires c κs = lines-start (c .before .before) .pre .0
 
 -- the lines of the pairs leave room for the end line
-room : (c : tie.After-pairs) → c .before .before .before .put-pairs .result + 25 ≤ length (c .before .before .before .put-pairs .last .1 .0)
+room : (c : tie.After-pairs) → pairs-lines c .put-pairs .result + endRoom ≤ length (pairs-lines c .put-pairs .last .1 .0)
 room c =
-    let p = c .before .before .before .before .before .before .before .pre in
-    let w = c .before .before .before .put-pairs .ensures in
-    let m = pairs-most _ (valid-small _ (p .0 .valid)) in
-    omega (arith, p .1, m, w .count, put-kept w (omega (arith, p .1, m, w .count)))
+    let l = pairs-lines c in
+    omega (arith, lines-few l, put-kept (l .put-pairs .ensures) (omega (arith, lines-few l)))
 
 sub-put-end : tie.Need-sub-put-end
 sub-put-end c = omega (arith, room c)
@@ -41,27 +60,18 @@ part-put-end-end c = search needs
 
 put-end-requires : tie.Need-put-end-requires
 put-end-requires c κs =
-    let w = c .before .before .before .before .put-pairs in
+    let w = pairs-lines (c .before) .put-pairs in
     omega (arith, room (c .before), length-part (w .result) (w .last .1 .0))
 
--- the end line is short
-wrote : (c : tie.After-slice-known3) → c .before .before .put-end .result ≤ 25
-wrote c =
-    let s = read (c .before .before .before .before .before .before .before .before .before .before .before .args .rack .now) in
-    let p = c .before .before .before .before .before .before .before .before .before .before .before .pre in
-    omega (
-      arith,
-      c .before .before .put-end .ensures .count,
-      ap (λ (x : ℕ). length (endText x)) (c .before .before .before .before .pairs .ensures),
-      ap length (end-line s),
-      end-most s (valid-small s (p .0 .valid)),
-    )
+-- the end line
+last-line : (c : tie.After-slice-known3) → endText (end-pairs c .pairs .result) ≡ endLine (state (pairs-lines (end-pairs c)))
+last-line c = ap endText (end-pairs c .pairs .ensures) ∙ sym (end-line _)
 
 add-result : tie.Need-add-result
 add-result c =
-    let p = c .before .before .before .before .before .before .before .before .before .before .before .pre in
-    let w = c .before .before .before .before .before .before .before .put-pairs .ensures in
-    record { fits = omega (arith, wrote c, w .count, pairs-most _ (valid-small _ (p .0 .valid))) }
+    let l = pairs-lines (end-pairs c) in
+    let e = c .before .before .put-end .ensures .count ∙ ap length (last-line c) in
+    record { fits = omega (arith, e, end-most (state l) (small l), l .put-pairs .ensures .count, pairs-most (state l) (small l)) }
 
 same-length : tie.Need-same-length
 same-length c = search needs
@@ -69,11 +79,10 @@ same-length c = search needs
 returns : tie.Need-returns
 unfolding endingText
 returns c =
-    let s = read (c .before .before .before .before .before .before .before .before .before .before .before .args .rack .now) in
-    let p = c .before .before .before .before .before .before .before .before .before .before .before .pre in
-    let e = c .before .before .before .before .pairs .ensures in
-    put-as _ _ (ap (λ (l : List ℕ). pairLines s ++ l) (ap endText e ∙ sym (end-line s)))
-    (put-then (c .before .before .before .before .before .before .before .put-pairs .ensures) (c .before .before .put-end .ensures) (omega (arith, p .1, pairs-most s (valid-small s (p .0 .valid)))))
+    let l = pairs-lines (end-pairs c) in
+    let w = l .put-pairs .ensures in
+    put-as _ _ (ap (λ (x : List ℕ). pairLines (state l) ++ x) (last-line c))
+    (put-then w (c .before .before .put-end .ensures) (omega (arith, lines-few l, w .count)))
 
 pub put-ending-spec : {M : Type 1} → statement M
 put-ending-spec =

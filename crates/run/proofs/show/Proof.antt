@@ -1,53 +1,62 @@
 -- `run::show` meets its contract. Assumes nothing.
-use mathlib.Core.Path.{sym, _∙_}
+use mathlib.Core.Path.{_∙_}
+use Prim.Native.Nat.{_≤_}
 use native.Mathlib.Omega.{arith}
-use Rattle.text.proofs.Over.{put-as}
-use Rattle.run.specs.Recording.{told}
-use Rattle.run.proofs.Once.{line-few, length-few, output-ran, output-back, put-front-again}
+use lib.ListN.{length}
+use Rattle.model.specs.Run.{spaceLength}
+use Rattle.run.proofs.Once.{line-few, shown-record, shown-back}
 use borrow.Author.Needs.{needs}
 use Rattle.run.proofs.show.Statement.{statement}
 use Rattle.run.proofs.show.Tie as tie
+
+-- the places, each from an earlier one
+abbrev run-start : tie.After-run → tie.Start
+run-start c = c .before .before .before .before .before .before
+
+abbrev then-run : tie.Then1 → tie.After-run
+then-run c = c .before .before .before .before .before .before
+
+abbrev arg-else : tie.After-struct-known2 → tie.Else1
+arg-else c = c .before .before
+
+abbrev else-run : tie.Else1 → tie.After-run
+else-run c = c .before .before .before .before .before .before
+
+abbrev end-else : tie.After-slice-known5 → tie.Else1
+end-else c = arg-else (c .before .before .before)
+
+-- the run kept the space's length
+wide : (c : tie.After-run) → spaceLength ≤ length (c .run .last .1 .1 .0)
+wide c = omega (arith, run-start c .pre, c .run .kept .1 .1 .0)
 
 run-requires : tie.Need-run-requires
 run-requires c κs = search needs
 
 same-length : tie.Need-same-length
-same-length c = c .before .before .before .before .before .before .run .kept .0
+same-length c = then-run c .run .kept .0
 
 same-length-2 : tie.Need-same-length-2
-same-length-2 c = c .before .before .before .before .before .before .run .kept .1 .1 .0
+same-length-2 c = then-run c .run .kept .1 .1 .0
 
 returns : tie.Need-returns
-returns c =
-    let r = c .before .before .before .before .before .before .run in
-    record {
-      answer = told (r .result);
-      space = r .last .1 .1 .0;
-      ran = r .ensures;
-      prints = put-front-again _ _ (output-ran (told (r .result)) (r .last .1 .1 .0) (c .if1 .taken)) (omega (arith, length-few (r .ensures), c .before .before .before .before .before .before .before .before .before .before .before .before .pre, r .kept .1 .1 .0));
-    }
+returns c = let r = then-run c in shown-record (r .run .ensures) (omega (arith, c .if1 .taken)) (wide r)
 
 cast-put-bad : tie.Need-cast-put-bad
-cast-put-bad c = record { fits = omega (arith, line-few _ _ _ _ (c .before .before .before .before .before .before .before .before .run .ensures)) }
+cast-put-bad c = record { fits = omega (arith, line-few _ _ _ _ (else-run (arg-else c) .run .ensures)) }
 
 put-bad-requires : tie.Need-put-bad-requires
-put-bad-requires c κs = omega (arith, c .before .before .before .before .before .before .before .before .before .before .before .before .before .before .pre, c .before .before .before .before .before .before .before .before .run .kept .1 .1 .0)
+put-bad-requires c κs = omega (arith, wide (else-run (arg-else c)))
 
 same-length-3 : tie.Need-same-length-3
-same-length-3 c = c .before .before .before .before .before .before .before .before .before .before .before .run .kept .0
+same-length-3 c = else-run (end-else c) .run .kept .0
 
 same-length-4 : tie.Need-same-length-4
-same-length-4 c = c .before .before .put-bad .kept .0 ∙ c .before .before .before .before .before .before .before .before .before .before .before .run .kept .1 .1 .0
+same-length-4 c = c .before .before .put-bad .kept .0 ∙ else-run (end-else c) .run .kept .1 .1 .0
 
 returns-2 : tie.Need-returns-2
 returns-2 c =
-    let r = c .before .before .before .before .before .before .before .before .before .before .before .run in
-    record {
-      answer = told (r .result);
-      space = r .last .1 .1 .0;
-      ran = r .ensures;
-      prints = put-as _ _ (sym (output-back (told (r .result)) (r .last .1 .1 .0) (c .before .before .before .before .before .if1 .left))) (c .before .before .put-bad .ensures);
-    }
+    let e = end-else c in
+    shown-back (else-run e .run .ensures) (e .if1 .left) (c .before .before .put-bad .ensures)
 
 pub show-spec : {M : Type 1} → statement M
 show-spec =

@@ -21,7 +21,8 @@ abbrev record-else : tie.After-put-record → tie.Else1
 record-else c = c .before .before .before
 
 -- the rack was made
-rack-made : (c : tie.Else1) → let a = make-start (else-make c) .args in (sizeGood (a .n) ≡ true) × (else-make c .make .last .0 ≡ write (empty (a .n)))
+rack-made : (c : tie.Else1) → let n = make-start (else-make c) .args .n in
+    (sizeGood n ≡ true) × (else-make c .make .last .0 ≡ write (empty n))
 rack-made c = let m = else-make c in made-new _ _ (make-start m .pre .0) (m .make .ensures) (c .if1 .left)
 
 make-requires : tie.Need-make-requires
