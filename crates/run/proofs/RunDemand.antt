@@ -31,7 +31,7 @@ use Rattle.theory.proofs.OnBytes.{step, call-leaves, pairs-of}
 use Rattle.theory.proofs.LastRack.{last-facts}
 use Rattle.theory.proofs.ListTheorem.{next-ledger, from-valid}
 use Rattle.text.proofs.Answers.{refused-line}
-use Rattle.record.specs.Line.{pairText, endText}
+use Rattle.record.specs.Line.{answered, pairText, endText}
 use Rattle.record.proofs.Laws.{end-line}
 use Rattle.changes.specs.Sounded.{Sounded}
 use Rattle.changes.proofs.Answered.{sounded-of}
@@ -45,12 +45,10 @@ use Rattle.run.proofs.Whole.{empty-good}
 line-by : {l : Ledger} {bs : List ℕ} {c : Change} {d : ChangedBytes} → Call l bs c d → answerLine (d .answer) ≡ answerLine (answerBy l c d)
 unfolding answerBy
 line-by {l} {bs} {c} {d} h = elim (eq? (ledgerNumber l c) 0) [
-  | inl e ↦ λ i. answerLine (record {
-    number = h .number i;
-    draws = d .answer .draws;
-    falls = d .answer .falls;
-    pairs = h .accepted-pairs e i;
-  })
+  | inl e ↦
+      let number : d .answer .number ≡ answerBy l c d .number = omega (arith, h .number) in
+      let pairs : d .answer .pairs ≡ answerBy l c d .pairs = omega (arith, h .accepted-pairs e) in
+      λ i. answerLine (answered (number i) (d .answer .draws) (d .answer .falls) (pairs i))
   | inr e ↦
       refused-line (d .answer) (λ z. e (sym (h .number) ∙ z))
       ∙ ap (λ (k : ℕ). bytes "(refused " ++ (decimal k ++ bytes ")\n")) (h .number)
