@@ -6,7 +6,7 @@ ghost use Prim.Native.Nat.{_<_};
 ghost use Rattle.model.specs.State.{base, edge, pairs as pairsOf};
 ghost use Rattle.model.specs.Bytes.{read, write};
 ghost use Rattle.model.specs.Moves.{part as parted, promote as promoted, settle as settled};
-ghost use Rattle.model.specs.Change.{start, add as added, drop as dropped, number as numberOf, change as changeOf};
+ghost use Rattle.model.specs.Change.{start, lower as lowerOf, upper as upperOf, add as added, drop as dropped, number as numberOf, change as changeOf};
 ghost use Rattle.moves.specs.Proper.{Held};
 ghost use Rattle.changes.specs.Sounded.{Sounded, Begun, Liftable, Acceptable, acceptedRun, Ended, Answers, brought, codeNumber, endsNumber, linkNumber, wordsNumber};
 use settling::Tally;
@@ -154,22 +154,38 @@ fn drop(rack: &mut [u8], a: usize, b: usize, words: &[u32]) -> Tally
     Tally::new()
 }
 
+// The lower number of two.
+fn lower(a: usize, b: usize) -> usize
+    ensures { λ r. ⌜ r ≡ lowerOf a b ⌝ }
+{
+    if b < a {
+        return b;
+    }
+    a
+}
+
+// The upper number of two.
+fn upper(a: usize, b: usize) -> usize
+    ensures { λ r. ⌜ r ≡ upperOf a b ⌝ }
+{
+    if b < a {
+        return a;
+    }
+    b
+}
+
 // A change that none of the numbers fits.
 fn accepted(rack: &mut [u8], code: u32, a: usize, b: usize, words: &[u32]) -> Tally
     requires { ⌜ Sounded (now rack) ⌝ }
     requires { ⌜ Acceptable (read (now rack)) code a b ⌝ }
     ensures { λ r. ⌜ Ended (acceptedRun (read (now (rack .entry))) (brought code a b (now (words .entry)))) (now (rack .exit)) r ⌝ }
 {
+    let low = lower(a, b);
+    let high = upper(a, b);
     if code == 1 {
-        if b < a {
-            return add(rack, b, a, words);
-        }
-        return add(rack, a, b, words);
+        return add(rack, low, high, words);
     }
-    if b < a {
-        return drop(rack, b, a, words);
-    }
-    drop(rack, a, b, words)
+    drop(rack, low, high, words)
 }
 
 // One change of a sound rack, without the audit.
