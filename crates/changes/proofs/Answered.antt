@@ -3,14 +3,12 @@ use mathlib.Core.Path.{_≡_, refl, sym, ap, _∙_, subst}
 use mathlib.Core.Logic.{_≢_, inl, inr}
 use mathlib.Core.List.{List}
 use Prim.Native.Nat.{ℕ, _≤_, _<_}
-use native.Mathlib.Omega.{arith}
 use Rattle.model.specs.State.{base, State, edge, pairs}
-use Rattle.model.specs.Bytes.{read, write, mateEntry}
+use Rattle.model.specs.Bytes.{read, write}
 use Rattle.model.specs.Valid.{Valid}
 use Rattle.model.specs.Moves.{Run}
 use Rattle.model.specs.Change.{Change, Changed, lower, upper, add, drop, number, refused, done, accepted, change}
 use Rattle.model.proofs.Tests.{eq?, le?, bool-ext, T-true, T-false, eqb-yes, eqb-no, leb-yes, leb-no}
-use Rattle.model.proofs.Limits.{mateEntry-free, mateEntry-mate}
 use Rattle.model.proofs.Reading.{read-write}
 use Rattle.theory.proofs.Numbers.{Fitting, number-zero}
 use Rattle.theory.proofs.ChangeStep.{Step}
@@ -19,16 +17,6 @@ use Rattle.moves.proofs.Edges.{edge-turn}
 use Rattle.settling.specs.declared.Tally.{Tally}
 use Rattle.changes.specs.declared.Answer.{Answer}
 use Rattle.changes.specs.Sounded.{Sounded, Acceptable, acceptedRun, Ended, Answers}
-
--- the entry of a's mate names b exactly if b is its mate
-pub entry-names : (s : State) (a b : ℕ) → a ≢ b → b < 256 → mateEntry s a ≡ b → s .mate a ≡ b
-entry-names s a b d l e = elim (eq? (s .mate a) a) [
-  | inl m ↦ absurd (omega (arith, mateEntry-free s a m))
-  | inr m ↦ sym (mateEntry-mate s a m) ∙ e
-]
-
-pub entry-not : (s : State) (a b : ℕ) → a ≢ b → mateEntry s a ≢ b → s .mate a ≢ b
-entry-not s a b d e m = e (mateEntry-mate s a (λ z. d (sym z ∙ m)) ∙ m)
 
 -- the two numbers in order are the same two
 pub ordered-ends : (P : ℕ → ℕ → Type 0) (a b : ℕ) → P a b → P b a → P (lower a b) (upper a b)

@@ -3,17 +3,18 @@
 use mathlib.Core.Path.{_≡_, refl, sym, ap, _∙_, subst}
 use mathlib.Core.Logic.{_≢_, _⊎_, inl, inr}
 use mathlib.Core.Bool.{not, _&&_}
-use Prim.Native.Nat.{ℕ, zero, suc, _≤_}
+use Prim.Native.Nat.{ℕ, zero, suc, _≤_, _<_}
 use native.Mathlib.Omega.{arith}
 use lib.Dec.{T, eqb, eqb→eq}
 use Rattle.model.specs.Counting.{upd}
 use Rattle.model.specs.State.{base, State, below, phi, pending}
+use Rattle.model.specs.Bytes.{mateEntry}
 use Rattle.model.specs.Valid.{Valid}
 use Rattle.model.specs.Moves.{none, found, part}
 use Rattle.model.specs.Change.{isEdge, withoutEdge, reown, owning, addEdge, riser}
 use Rattle.model.proofs.Tests.{eq?, le?, and-left, and-right, or-cases}
 use Rattle.model.proofs.Lists.{upd-other}
-use Rattle.model.proofs.Limits.{phi-below}
+use Rattle.model.proofs.Limits.{phi-below, mateEntry-free, mateEntry-mate}
 use Rattle.theory.proofs.Takings.{pending-is}
 use Rattle.theory.proofs.Matching.{base-pos}
 use Rattle.theory.proofs.Loops.{riser-stop, riser-a, riser-b, riser-next}
@@ -101,6 +102,16 @@ riser-of a b (suc j) s i u l e = elim (le? (s .rank a) j) [
     ]
   ]
 ]
+
+-- the entry of a's mate names b exactly if b is its mate
+pub entry-names : (s : State) (a b : ℕ) → a ≢ b → b < 256 → mateEntry s a ≡ b → s .mate a ≡ b
+entry-names s a b d l e = elim (eq? (s .mate a) a) [
+  | inl m ↦ absurd (omega (arith, mateEntry-free s a m))
+  | inr m ↦ sym (mateEntry-mate s a m) ∙ e
+]
+
+pub entry-not : (s : State) (a b : ℕ) → a ≢ b → mateEntry s a ≢ b → s .mate a ≢ b
+entry-not s a b d e m = e (mateEntry-mate s a (λ z. d (sym z ∙ m)) ∙ m)
 
 -- After a parting, the two that were mates are all that can be pending.
 pub parted-pending : (s : State) → ((v : ℕ) → s .mate v ≡ v → s .rank v ≡ 0) → (a v i : ℕ) → T (pending (part a s) i v)

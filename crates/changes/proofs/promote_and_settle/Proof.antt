@@ -1,12 +1,9 @@
 -- `changes::promote_and_settle` meets its contract. Assumes nothing.
-use mathlib.Core.Path.{_≡_, ap, _∙_}
-use Prim.Native.Nat.{ℕ}
 use native.Mathlib.Omega.{arith}
-use lib.ListN.{length, length-replicate}
 use Rattle.model.specs.Bytes.{read}
 use Rattle.model.specs.Moves.{promote}
-use Rattle.settling.specs.Settling.{running, Room}
-use Rattle.changes.proofs.Chains.{none-pending, Onward, promoted-next, promoted-ran}
+use Rattle.model.specs.Change.{start}
+use Rattle.changes.proofs.Chains.{none-pending, Onward, promoted-next, settled-on}
 use borrow.Author.Needs.{needs}
 use Rattle.changes.proofs.promote_and_settle.Statement.{statement}
 use Rattle.changes.proofs.promote_and_settle.Tie as tie
@@ -20,20 +17,20 @@ slice-aggregate-promote c = search needs
 new-requires : tie.Need-new-requires
 new-requires c κs = search needs
 
--- an empty row, and nothing pending
-row : (c : tie.After-empty-row) → length (c .empty-row .result) ≡ 32
-row c = ap length (c .empty-row .ensures) ∙ length-replicate {A = ℕ} 32 0
+-- the places, each from a later one
+abbrev rowed : tie.After-new → tie.After-empty-row
+rowed c = c .before .before .before
+
+abbrev begin : tie.After-empty-row → tie.Start
+begin c = c .before .before .before
 
 promote-requires : tie.Need-promote-requires
 promote-requires c κs =
-    let a = c .before .before .before .before .before .before .args in
-    let b = c .before .before .before .before .before .before .pre .0 in
-    let m = c .before .before .before .before .before .before .pre .1 in (
+    let r = rowed c in
+    let b = begin r .pre .0 in
+    let m = begin r .pre .1 in (
       (b .held, b .ordered),
-      (
-        (m .inside, m .low, m .level, m .some),
-        (none-pending (c .before .before .before .empty-row .result) (read (a .rack .now)) (row (c .before .before .before)) (b .still), omega (arith, c .new .ensures)),
-      ),
+      ((m .inside, m .low, m .level, m .some), (none-pending (r .empty-row .ensures) b, omega (arith, c .new .ensures))),
     )
 
 slice-aggregate-settle : tie.Need-slice-aggregate-settle
@@ -41,26 +38,23 @@ slice-aggregate-settle c = search needs
 
 -- where the promotion leaves the run
 next : (c : tie.After-promote) →
-    let a = c .before .before .before .before .before .before .before .args in
-    Onward (promote (a .words .now) (a .i) (a .u) (running (a .rack .now) (c .before .new .result))) (c .promote .last .0) (c .promote .last .1 .0) (c .promote .result)
-    × Room 1 0 (c .promote .result)
+    let a = begin (rowed (c .before)) .args in
+    let p = c .promote in
+    Onward (promote (a .words .now) (a .i) (a .u) (start (read (a .rack .now)))) (p .last .0) (p .last .1 .0) (p .result)
 next c =
-    let a = c .before .before .before .before .before .before .before .args in
-    promoted-next (a .words .now) (a .i) (a .u) (a .rack .now) (c .before .new .result) (c .before .before .before .before .before .before .before .pre .0) (c .before .before .before .before .before .before .before .pre .1) (c .before .new .ensures .0) (c .before .new .ensures .1) (c .promote .ensures)
+    let d = begin (rowed (c .before)) in
+    promoted-next (d .args .words .now) (d .args .i) (d .args .u) (d .pre .0) (d .pre .1) (c .before .new .ensures) (c .promote .ensures)
 
 settle-requires : tie.Need-settle-requires
-settle-requires c κs =
-    let n = next (c .before .before .before .before .before) in
-    ((n .0 .held, n .0 .ordered), (n .0 .pends, n .1))
+settle-requires c κs = let n = next (c .before .before .before .before .before) in ((n .held, n .ordered), (n .pends, n .room))
 
 same-length : tie.Need-same-length
 same-length c = search needs
 
 returns : tie.Need-returns
 returns c =
-    let a = c .before .before .before .before .before .before .before .before .before .before .before .before .before .before .before .before .args in
-    let t = c .before .before .before .before .before .before .before .before .before .before .new in
-    promoted-ran (a .words .now) (a .i) (a .u) (a .rack .now) (t .result) (t .ensures .0) (t .ensures .1) (next (c .before .before .before .before .before .before .before .before .before) .0) (c .before .before .before .settle .ensures)
+    let s = c .before .before .before in
+    settled-on _ (next (s .before .before .before .before .before .before)) (s .settle .ensures)
 
 pub promote-and-settle-spec : {M : Type 1} → statement M
 promote-and-settle-spec =
