@@ -1,5 +1,5 @@
 -- The numbers of a change, case by case. Assumes nothing.
-use mathlib.Core.Path.{_≡_, refl}
+use mathlib.Core.Path.{_≡_, refl, ap₂}
 use mathlib.Core.Logic.{_≢_, inl, inr}
 use mathlib.Core.Bool.{Bool, true, false, not, _||_, _&&_}
 use mathlib.Core.List.{List}
@@ -7,9 +7,13 @@ use Prim.Native.Nat.{ℕ, zero, suc, _/_, _≤_, _<_}
 use native.Mathlib.Omega.{arith}
 use lib.Dec.{eqb, ltb}
 use lib.ListN.{length}
-use Rattle.model.specs.Change.{number}
+use Rattle.model.specs.State.{edge}
+use Rattle.model.specs.Bytes.{ownsAt, read}
+use Rattle.model.specs.Change.{Change, number}
 use Rattle.model.proofs.Tests.{eq?, le?, eqb-yes, eqb-no, leb-yes, leb-no}
-use Rattle.changes.specs.Sounded.{brought, codeNumber, endsNumber, linkNumber, wordsNumber}
+use Rattle.moves.specs.Proper.{Held}
+use Rattle.moves.proofs.Held.{held-small, held-owns}
+use Rattle.changes.specs.Sounded.{codeNumber, endsNumber, linkNumber, wordsNumber, first}
 
 -- the numbers of the boards
 module _ (n a b : ℕ) where
@@ -41,10 +45,6 @@ module _ (n a b : ℕ) where
 
 -- The number of a change is the first of its parts' numbers that is not 0, in their order.
 
-unfoldable pub first : ℕ → ℕ → ℕ
-first zero y = y
-first (suc k) y = suc k
-
 pub first-is : (x y : ℕ) → x ≢ 0 → x ≡ first x y
 unfolding first
 first-is zero y d = absurd (d refl)
@@ -54,46 +54,70 @@ pub first-next : (x y : ℕ) → x ≡ 0 → y ≡ first x y
 unfolding first
 first-next x y e = rw (e, first) refl
 
--- the numbers after the code's, after the boards' and after the link's
-module _ (n : ℕ) (there : Bool) (code a b : ℕ) (words : List ℕ) where
-  abbrev pub byLink : ℕ
-  byLink = first (linkNumber code there) (wordsNumber n words)
+pub first-zero : (x y : ℕ) → first x y ≡ 0 → y ≡ 0
+unfolding first
+first-zero zero y e = e
+first-zero (suc k) y e = absurd (omega (arith, e))
 
-  abbrev pub byEnds : ℕ
-  byEnds = first (endsNumber n a b) byLink
+-- the numbers that what is named has, and then those of the edge and of the words
+module _ (n : ℕ) (there : ℕ → ℕ → Bool) (c : Change) where
+  abbrev pub ofNamed : ℕ
+  ofNamed = first (codeNumber (c .code)) (endsNumber n (c .a) (c .b))
 
-  abbrev pub byCode : ℕ
-  byCode = first (codeNumber code) byEnds
+  abbrev pub ofRest : ℕ
+  ofRest = first (linkNumber (c .code) (there (c .a) (c .b))) (wordsNumber n (c .words))
 
-pub number-is : (n : ℕ) (there : ℕ → ℕ → Bool) (code a b : ℕ) (words : List ℕ) → number n there (brought code a b words) ≡ byCode n (there a b) code a b words
-unfolding number codeNumber endsNumber linkNumber wordsNumber first
-number-is n there code a b words = go (eqb code 1) (eqb code 2) (ltb a n && ltb b n) (eqb a b) (there a b) (ltb (length words) (n / 2))
-  where
-    go : (adds drops inside same there few : Bool)
-        → _≡_ {A = ℕ}
-        (elim (adds || drops) [
-          | false ↦ 7
-          | true ↦ elim inside [
-            | false ↦ 8
-            | true ↦ elim same [
-              | true ↦ 9
-              | false ↦ elim (adds && there) [
-                | true ↦ 10
-                | false ↦ elim (drops && not there) [ true ↦ 11 | false ↦ elim few [ true ↦ 12 | false ↦ 0 ] ]
+  pub number-is : first ofNamed ofRest ≡ number n there c
+  unfolding number codeNumber endsNumber linkNumber wordsNumber first
+  number-is =
+      go (eqb (c .code) 1) (eqb (c .code) 2) (ltb (c .a) n && ltb (c .b) n) (eqb (c .a) (c .b)) (there (c .a) (c .b))
+      (ltb (length (c .words)) (n / 2))
+    where
+      go : (adds drops inside same linked few : Bool)
+          → _≡_ {A = ℕ}
+          (first
+          (first (elim (adds || drops) [ true ↦ 0 | false ↦ 7 ]) (elim inside [ false ↦ 8 | true ↦ elim same [ true ↦ 9 | false ↦ 0 ] ]))
+          (first
+          (elim linked [ true ↦ elim adds [ true ↦ 10 | false ↦ 0 ] | false ↦ elim drops [ true ↦ 11 | false ↦ 0 ] ])
+          (elim few [ true ↦ 12 | false ↦ 0 ])))
+          (elim (adds || drops) [
+            | false ↦ 7
+            | true ↦ elim inside [
+              | false ↦ 8
+              | true ↦ elim same [
+                | true ↦ 9
+                | false ↦ elim (adds && linked) [
+                  | true ↦ 10
+                  | false ↦ elim (drops && not linked) [ true ↦ 11 | false ↦ elim few [ true ↦ 12 | false ↦ 0 ] ]
+                ]
               ]
             ]
-          ]
-        ])
-        (first (elim (adds || drops) [ true ↦ 0 | false ↦ 7 ])
-        (first (elim inside [ false ↦ 8 | true ↦ elim same [ true ↦ 9 | false ↦ 0 ] ])
-        (first (elim there [ true ↦ elim adds [ true ↦ 10 | false ↦ 0 ] | false ↦ elim drops [ true ↦ 11 | false ↦ 0 ] ]) (elim few [ true ↦ 12 | false ↦ 0 ]))))
-    go false false i s t f = refl
-    go true d false s t f = refl
-    go true d true true t f = refl
-    go true d true false true f = refl
-    go true true true false false f = refl
-    go true false true false false f = refl
-    go false true false s t f = refl
-    go false true true true t f = refl
-    go false true true false true f = refl
-    go false true true false false f = refl
+          ])
+      go false false i s t f = refl
+      go true d false s t f = refl
+      go true d true true t f = refl
+      go true d true false true f = refl
+      go true true true false false f = refl
+      go true false true false false f = refl
+      go false true false s t f = refl
+      go false true true true t f = refl
+      go false true true false true f = refl
+      go false true true false false f = refl
+
+-- whether the edge is there, as the bytes have it
+pub edge-held : {bs : List ℕ} → Held bs → (a b : ℕ) → (a < read bs .n) × (b < read bs .n) × (a ≢ b)
+    → ownsAt bs a b || ownsAt bs b a ≡ edge (read bs) a b
+unfolding edge
+edge-held h a b e =
+    let la : a < 256 = held-small h a (e .0) in
+    let lb : b < 256 = held-small h b (e .1) in
+    ap₂ _||_ (held-owns h a b la lb) (held-owns h b a lb la)
+
+-- the number of the words
+pub words-few : (n : ℕ) (words : List ℕ) → length words < n / 2 → wordsNumber n words ≡ 12
+unfolding wordsNumber
+words-few n words l = rw (leb-yes (suc (length words)) (n / 2) l, wordsNumber) refl
+
+pub words-enough : (n : ℕ) (words : List ℕ) → n / 2 ≤ length words → wordsNumber n words ≡ 0
+unfolding wordsNumber
+words-enough n words l = rw (leb-no (suc (length words)) (n / 2) (omega arith), wordsNumber) refl

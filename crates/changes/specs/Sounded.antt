@@ -3,7 +3,7 @@ use mathlib.Core.Path.{_≡_}
 use mathlib.Core.Logic.{_≢_}
 use mathlib.Core.Bool.{Bool, true, false, _&&_, _||_}
 use mathlib.Core.List.{List}
-use Prim.Native.Nat.{ℕ, _/_, _≤_, _<_}
+use Prim.Native.Nat.{ℕ, zero, suc, _/_, _≤_, _<_}
 use lib.Dec.{T, eqb, ltb}
 use lib.ListN.{length}
 use Rattle.model.specs.State.{base, State, edge, below, pending}
@@ -74,8 +74,16 @@ endsNumber n a b = elim (ltb a n && ltb b n) [ false ↦ 8 | true ↦ elim (eqb 
 
 -- 10 or 11, or 0, by whether the edge is there
 unfoldable pub linkNumber : ℕ → Bool → ℕ
-linkNumber code there = elim there [ true ↦ elim (eqb code 1) [ true ↦ 10 | false ↦ 0 ] | false ↦ elim (eqb code 2) [ true ↦ 11 | false ↦ 0 ] ]
+linkNumber code there = elim there [
+  | true ↦ elim (eqb code 1) [ true ↦ 10 | false ↦ 0 ]
+  | false ↦ elim (eqb code 2) [ true ↦ 11 | false ↦ 0 ]
+]
 
 -- 12, or 0
 unfoldable pub wordsNumber : ℕ → List ℕ → ℕ
 wordsNumber n words = elim (ltb (length words) (n / 2)) [ true ↦ 12 | false ↦ 0 ]
+
+-- the first of two numbers that is not 0, or 0
+unfoldable pub first : ℕ → ℕ → ℕ
+first zero y = y
+first (suc k) y = suc k

@@ -8,7 +8,7 @@ ghost use Rattle.model.specs.Bytes.{read, write};
 ghost use Rattle.model.specs.Moves.{part as parted, promote as promoted, settle as settled};
 ghost use Rattle.model.specs.Change.{start, lower as lowerOf, upper as upperOf, add as added, drop as dropped, number as numberOf, change as changeOf};
 ghost use Rattle.moves.specs.Proper.{Held};
-ghost use Rattle.changes.specs.Sounded.{Sounded, Begun, Liftable, Acceptable, acceptedRun, Ended, Answers, brought, codeNumber, endsNumber, linkNumber, wordsNumber};
+ghost use Rattle.changes.specs.Sounded.{Sounded, Begun, Liftable, Acceptable, acceptedRun, Ended, Answers, brought, codeNumber, endsNumber, linkNumber, wordsNumber, first as firstOf};
 use settling::Tally;
 
 // "A change answers 0, its draws, its falls (moves down by one level) and the pairs then held."
@@ -82,26 +82,32 @@ fn words_number(n: usize, words: &[u32]) -> u32
     0
 }
 
-// The first of 7 to 12 that fits a change, or 0.
+// The first of two numbers that is not 0, or 0.
+fn first(x: u32, y: u32) -> u32
+    ensures { λ r. ⌜ r ≡ firstOf x y ⌝ }
+{
+    if x != 0 {
+        return x;
+    }
+    y
+}
+
+// The first of 7 to 12 that fits a change, or 0. The edge is looked for only if the boards named are two of the rack's.
 fn number(rack: &[u8], code: u32, a: u32, b: u32, words: &[u32]) -> u32
     requires { ⌜ Held (now rack) ⌝ }
     ensures { λ r. ⌜ r ≡ numberOf (read (now (rack .entry)) .n) (edge (read (now (rack .entry)))) (brought code a b (now (words .entry))) ⌝ }
 {
-    let by_code = code_number(code);
-    if by_code != 0 {
-        return by_code;
-    }
     let n = layout::size(rack);
+    let by_code = code_number(code);
     let by_ends = ends_number(n, a, b);
-    if by_ends != 0 {
-        return by_ends;
+    let named = first(by_code, by_ends);
+    if named != 0 {
+        return named;
     }
     let there = layout::linked(rack, a as usize, b as usize);
     let by_link = link_number(code, there);
-    if by_link != 0 {
-        return by_link;
-    }
-    words_number(n, words)
+    let by_words = words_number(n, words);
+    first(by_link, by_words)
 }
 
 // An add of an edge that is not there: a is the lower number.

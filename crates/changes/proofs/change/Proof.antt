@@ -1,5 +1,7 @@
 -- `changes::change` meets its contract. Assumes nothing.
 use mathlib.Core.Path.{_≡_, refl, sym, _∙_}
+use mathlib.Core.Logic.{_≢_}
+use native.Mathlib.Omega.{arith}
 use Rattle.model.specs.State.{edge}
 use Rattle.model.specs.Bytes.{read}
 use Rattle.model.specs.Change.{Change, number}
@@ -26,9 +28,10 @@ same-length c = search needs
 returns : tie.Need-returns
 returns c =
     let d = begin (c .before) in
-    let e = c .before .number .ensures in (
-      refused-answer (d .pre) (given d) _ e (c .if1 .taken) refl refl refl,
-      refused-leaves (d .pre) (given d) (λ z. c .if1 .taken (e ∙ z)),
+    let e = c .before .number .ensures in
+    let some : c .before .number .result ≢ 0 = λ z. omega (arith, c .if1 .taken) in (
+      refused-answer (d .pre) (given d) _ e some refl refl refl,
+      refused-leaves (d .pre) (given d) (λ z. some (e ∙ z)),
     )
 
 -- no number fits
@@ -59,7 +62,7 @@ returns-2 c =
     let d = begin (moved m .before) in
     let z = fits (moved m) in
     let x = m .accepted .ensures in (
-      accepted-answer (d .pre) (given d) z x _ refl refl refl (c .pairs .ensures),
+      accepted-answer (d .pre) (given d) z x _ refl (omega arith) (omega arith) (c .pairs .ensures),
       accepted-leaves (d .pre) (given d) z x,
     )
 

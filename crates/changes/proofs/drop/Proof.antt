@@ -1,4 +1,5 @@
 -- `changes::drop` meets its contract. Assumes nothing.
+use native.Mathlib.Omega.{arith}
 use Rattle.moves.proofs.Held.{held-sized}
 use Rattle.changes.proofs.Wholes.{sounded-held, Dropped, dropped-begun, dropped-inside, dropped-small, dropped-mates, dropped-loose, dropped-pair}
 use borrow.Author.Needs.{needs}
@@ -32,7 +33,7 @@ part-and-settle-requires c κs =
     let m = c .before .before in
     let x = dropped (edged m) in
     let l = dropped-inside x in
-    (dropped-begun x, (l .0, l .1, dropped-mates x (m .mate .ensures) (c .before .if1 .taken)))
+    (dropped-begun x, (l .0, l .1, dropped-mates x (m .mate .ensures) (omega (arith, c .before .if1 .taken))))
 
 same-length : tie.Need-same-length
 same-length c = search needs
