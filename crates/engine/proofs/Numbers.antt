@@ -5,24 +5,31 @@ use mathlib.Core.Bool.{Bool, true, false, not, _||_}
 use mathlib.Core.List.{List}
 use Prim.Native.Nat.{ℕ, suc, _≤_, _<_}
 use native.Mathlib.Omega.{arith}
-use lib.Dec.{eqb→eq}
+use lib.Dec.{eqb, eqb→eq}
 use lib.ListN.{length}
 use Rattle.model.specs.State.{base, edge, empty}
 use Rattle.model.specs.Bytes.{rackLength, most, sizeAt, ownsAt, read, write}
 use Rattle.model.specs.Sound.{sizeGood, sound}
 use Rattle.model.specs.Calls.{sized, rackNumber, makeNumber, made, oneNumber, twoNumber}
-use Rattle.model.proofs.Tests.{le?, true-T, eqb-yes, eqb-no, leb-yes, leb-no}
+use Rattle.model.proofs.Tests.{eq?, le?, true-T, eqb-yes, eqb-no, leb-yes, leb-no}
 use Rattle.model.proofs.Facts.{sound-says}
 use Rattle.model.proofs.Reading.{read-owns}
 
--- what a test of a negation says
-pub off : (b : Bool) → not b ≡ true → b ≡ false
-off true e = sym e
-off false e = refl
+-- what the test of a negation says of a flag that was read
+pub off : {r b : Bool} → r ≡ b → not r ≡ true → b ≡ false
+off {r = true} e t = sym e ∙ sym t
+off {r = false} e t = sym e
 
-pub on : (b : Bool) → not b ≡ false → b ≡ true
-on true e = refl
-on false e = sym e
+pub on : {r b : Bool} → r ≡ b → not r ≡ false → b ≡ true
+on {r = true} e t = sym e
+on {r = false} e t = sym e ∙ sym t
+
+-- what the test of a number says
+pub told : {k m : ℕ} → k ≡ m → k ≢ 0 → eqb m 0 ≡ false
+told {k} {m} e d = eqb-no m 0 (λ z. d (e ∙ z))
+
+pub none-told : {k m : ℕ} → k ≡ m → k ≡ 0 → eqb m 0 ≡ true
+none-told {k} {m} e z = eqb-yes m 0 (sym e ∙ z)
 
 pub sized-length : (bs : List ℕ) → sized bs ≡ true → length bs ≡ rackLength
 unfolding sized
@@ -54,16 +61,16 @@ module _ (bs : List ℕ) where
   pub good-size : sound base bs ≡ true → sizeAt bs ≤ most
   good-size e = sound-says base bs .fact (true-T e) .size .1
 
-  -- making
-  pub make-one : (n : ℕ) → sized bs ≡ false → (makeNumber bs n ≡ 1) × (made bs n ≡ bs)
+  -- making: the number, and the bytes that are left
+  pub make-one : (n : ℕ) → sized bs ≡ false → (1 ≡ makeNumber bs n) × (bs ≡ made bs n)
   unfolding makeNumber made
   make-one n e = (rw (e, makeNumber) refl, rw (e, makeNumber, made) refl)
 
-  pub make-five : (n : ℕ) → sized bs ≡ true → sizeGood n ≡ false → (makeNumber bs n ≡ 5) × (made bs n ≡ bs)
+  pub make-five : (n : ℕ) → sized bs ≡ true → sizeGood n ≡ false → (5 ≡ makeNumber bs n) × (bs ≡ made bs n)
   unfolding makeNumber made
   make-five n e f = (rw (e, f, makeNumber) refl, rw (e, f, makeNumber, made) refl)
 
-  pub make-new : (n : ℕ) → sized bs ≡ true → sizeGood n ≡ true → (makeNumber bs n ≡ 0) × (made bs n ≡ write (empty n))
+  pub make-new : (n : ℕ) → sized bs ≡ true → sizeGood n ≡ true → (0 ≡ makeNumber bs n) × (write (empty n) ≡ made bs n)
   unfolding makeNumber made
   make-new n e f = (rw (e, f, makeNumber) refl, rw (e, f, makeNumber, made) refl)
 
@@ -81,7 +88,7 @@ module _ (bs : List ℕ) where
   one-zero v e l = rw (eqb-yes (rackNumber base bs) 0 e, leb-yes (suc v) (sizeAt bs) l, oneNumber) refl
 
   pub one-good : (v : ℕ) → oneNumber base bs v ≡ 0 → (rackNumber base bs ≡ 0) × (v < sizeAt bs)
-  one-good v z = elim (Rattle.model.proofs.Tests.eq? (rackNumber base bs) 0) [
+  one-good v z = elim (eq? (rackNumber base bs) 0) [
     | inr d ↦ absurd (d (sym (one-back v d) ∙ z))
     | inl e ↦ elim (le? (sizeAt bs) v) [
       | inl l ↦ absurd (omega (arith, one-eight v e l))
@@ -106,7 +113,7 @@ module _ (bs : List ℕ) where
   two-zero v w e l f = rw (eqb-yes (oneNumber base bs v) 0 e, leb-yes (suc w) (sizeAt bs) l, eqb-no v w f, twoNumber) refl
 
   pub two-good : (v w : ℕ) → twoNumber base bs v w ≡ 0 → (oneNumber base bs v ≡ 0) × (w < sizeAt bs)
-  two-good v w z = elim (Rattle.model.proofs.Tests.eq? (oneNumber base bs v) 0) [
+  two-good v w z = elim (eq? (oneNumber base bs v) 0) [
     | inr d ↦ absurd (d (sym (two-back v w d) ∙ z))
     | inl e ↦ elim (le? (sizeAt bs) w) [
       | inl l ↦ absurd (omega (arith, two-eight v w e l))

@@ -94,8 +94,10 @@ first-requires-2 c κs = search needs
 
 returns-2 : tie.Need-returns-2
 returns-2 c =
-    let l = looked (c .before) in
-    c .first2 .ensures ∙ rest-is (c .before) ∙ first-next _ _ (sym (named-is (named l)) ∙ l .before .if1 .left) ∙ number-is _ _ _
+    let r = c .before in
+    let l = looked r in
+    let order : c .first2 .result ≡ first (r .before .link-number .result) (r .words-number .result) = c .first2 .ensures in
+    order ∙ rest-is r ∙ first-next _ _ (sym (named-is (named l)) ∙ l .before .if1 .left) ∙ number-is _ _ _
 
 pub number-spec : {M : Type 1} → statement M
 number-spec =

@@ -1,5 +1,5 @@
 -- `engine::audit` meets its contract. Assumes nothing.
-use mathlib.Core.Path.{refl, sym, _∙_}
+use mathlib.Core.Path.{refl}
 use Rattle.model.specs.Calls.{audit}
 use Rattle.engine.proofs.Numbers.{off, on, sized-length}
 use borrow.Author.Needs.{needs}
@@ -11,15 +11,15 @@ sized-requires c κs = search needs
 
 returns : tie.Need-returns
 unfolding audit
-returns c = rw (sym (c .before .sized .ensures) ∙ off (c .before .sized .result) (c .if1 .taken), audit) (record { number = refl; yes = refl })
+returns c = rw (off (c .before .sized .ensures) (c .if1 .taken), audit) (record { number = refl; yes = refl })
 
 sound-requires : tie.Need-sound-requires
-sound-requires c κs = sized-length (c .before .before .before .args .rack .now) (sym (c .before .sized .ensures) ∙ on (c .before .sized .result) (c .if1 .left))
+sound-requires c κs = sized-length _ (on (c .before .sized .ensures) (c .if1 .left))
 
 returns-2 : tie.Need-returns-2
 unfolding audit
-returns-2 c = rw (sym (c .before .before .sized .ensures) ∙ on (c .before .before .sized .result) (c .before .if1 .left), audit)
-    (record { number = refl; yes = c .sound .ensures })
+returns-2 c =
+    rw (on (c .before .before .sized .ensures) (c .before .if1 .left), audit) (record { number = refl; yes = c .sound .ensures })
 
 pub audit-spec : {M : Type 1} → statement M
 audit-spec = tie.close (tie.spec sized-requires returns sound-requires returns-2)

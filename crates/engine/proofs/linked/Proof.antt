@@ -1,38 +1,46 @@
 -- `engine::linked` meets its contract. Assumes nothing.
-use mathlib.Core.Path.{refl, sym, _∙_}
-use Rattle.model.specs.Calls.{linkedQuery}
-use Rattle.model.proofs.Tests.{eqb-yes, eqb-no}
-use Rattle.engine.proofs.Numbers.{asked-two, linked-edge}
+use mathlib.Core.Path.{_≡_, refl, sym, _∙_}
+use mathlib.Core.Bool.{Bool}
+use Rattle.model.specs.State.{base, edge}
+use Rattle.model.specs.Bytes.{read}
+use Rattle.model.specs.Calls.{linkedQuery, twoNumber}
+use Rattle.engine.proofs.Numbers.{told, none-told, asked-two, linked-edge}
 use borrow.Author.Needs.{needs}
 use Rattle.engine.proofs.linked.Statement.{statement}
 use Rattle.engine.proofs.linked.Tie as tie
+
+-- no number fits
+good : (c : tie.Else1) → let a = c .before .before .before .args in twoNumber base (a .rack .now) (a .v) (a .w) ≡ 0
+good c = sym (c .before .two-number .ensures) ∙ c .if1 .left
+
+-- whether they are linked
+edge-is : (c : tie.After-linked) →
+    let a = c .before .before .before .before .args in
+    edge (read (a .rack .now)) (a .v) (a .w) ≡ c .linked .result
+edge-is c = sym (linked-edge _ _ _ (good (c .before))) ∙ sym (c .linked .ensures)
 
 two-number-requires : tie.Need-two-number-requires
 two-number-requires c κs = search needs
 
 returns : tie.Need-returns
 unfolding linkedQuery
-returns c =
-    let e = c .before .two-number .ensures in
-    rw (eqb-no _ 0 (λ z. c .if1 .taken (e ∙ z)), linkedQuery) (record { number = e; value = refl })
+returns c = let e = c .before .two-number .ensures in rw (told e (c .if1 .taken), linkedQuery) (record { number = e; value = refl })
 
 linked-requires : tie.Need-linked-requires
-linked-requires c κs = asked-two (c .before .before .before .args .rack .now) _ _ (sym (c .before .two-number .ensures) ∙ c .if1 .left)
+linked-requires c κs = asked-two _ _ _ (good c)
 
 returns-2 : tie.Need-returns-2
 unfolding linkedQuery
 returns-2 c =
-    let a = c .before .before .before .before .before .args in
-    let e = sym (c .before .before .before .two-number .ensures) ∙ c .before .before .if1 .left in
-    rw (eqb-yes _ 0 e, sym (linked-edge (a .rack .now) (a .v) (a .w) e) ∙ sym (c .before .linked .ensures) ∙ c .if2 .taken, linkedQuery)
+    let n = c .before .before in
+    rw (none-told (n .before .two-number .ensures) (n .if1 .left), edge-is (c .before) ∙ c .if2 .taken, linkedQuery)
     (record { number = refl; value = refl })
 
 returns-3 : tie.Need-returns-3
 unfolding linkedQuery
 returns-3 c =
-    let a = c .before .before .before .before .before .args in
-    let e = sym (c .before .before .before .two-number .ensures) ∙ c .before .before .if1 .left in
-    rw (eqb-yes _ 0 e, sym (linked-edge (a .rack .now) (a .v) (a .w) e) ∙ sym (c .before .linked .ensures) ∙ c .if2 .left, linkedQuery)
+    let n = c .before .before in
+    rw (none-told (n .before .two-number .ensures) (n .if1 .left), edge-is (c .before) ∙ c .if2 .left, linkedQuery)
     (record { number = refl; value = refl })
 
 pub linked-spec : {M : Type 1} → statement M

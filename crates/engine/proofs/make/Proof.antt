@@ -1,10 +1,20 @@
 -- `engine::make` meets its contract. Assumes nothing.
-use mathlib.Core.Path.{sym, _∙_}
+use mathlib.Core.Path.{_≡_, _∙_}
+use mathlib.Core.Bool.{true}
 use native.Mathlib.Omega.{arith}
+use Rattle.model.specs.Calls.{sized}
 use Rattle.engine.proofs.Numbers.{off, on, make-one, make-five, make-new, sized-length, few-bad, many-bad, few-good}
 use borrow.Author.Needs.{needs}
 use Rattle.engine.proofs.make.Statement.{statement}
 use Rattle.engine.proofs.make.Tie as tie
+
+-- the bytes are as many as a rack has
+long : (c : tie.Else1) → sized (c .before .before .before .before .args .rack .now) ≡ true
+long c = on (c .before .sized .ensures) (c .if1 .left)
+
+-- n is none of those turned back
+abbrev kept : tie.After-clear-arg → tie.Else3
+kept c = c .before
 
 sized-requires : tie.Need-sized-requires
 sized-requires c κs = search needs
@@ -13,47 +23,34 @@ same-length : tie.Need-same-length
 same-length c = search needs
 
 returns : tie.Need-returns
-returns c =
-    let a = c .before .before .before .before .args in
-    let r = make-one (a .rack .now) (a .n) (sym (c .before .sized .ensures) ∙ off (c .before .sized .result) (c .if1 .taken)) in
-    (sym (r .0), sym (r .1))
+returns c = make-one _ _ (off (c .before .sized .ensures) (c .if1 .taken))
 
 same-length-2 : tie.Need-same-length-2
 same-length-2 c = search needs
 
 returns-2 : tie.Need-returns-2
-returns-2 c =
-    let a = c .before .before .before .before .before .args in
-    let r = make-five (a .rack .now) (a .n) (sym (c .before .before .sized .ensures) ∙ on (c .before .before .sized .result) (c .before .if1 .left)) (few-bad (a .n) (c .if2 .taken)) in
-    (sym (r .0), sym (r .1))
+returns-2 c = make-five _ _ (long (c .before)) (few-bad _ (c .if2 .taken))
 
 same-length-3 : tie.Need-same-length-3
 same-length-3 c = search needs
 
 returns-3 : tie.Need-returns-3
-returns-3 c =
-    let a = c .before .before .before .before .before .before .args in
-    let r = make-five (a .rack .now) (a .n) (sym (c .before .before .before .sized .ensures) ∙ on (c .before .before .before .sized .result) (c .before .before .if1 .left))
-    (many-bad (a .n) (omega (arith, c .if3 .taken))) in
-    (sym (r .0), sym (r .1))
+returns-3 c = make-five _ _ (long (c .before .before)) (many-bad _ (omega (arith, c .if3 .taken)))
 
 cast-clear : tie.Need-cast-clear
 cast-clear c = search needs
 
 clear-requires : tie.Need-clear-requires
-clear-requires c κs =
-    let a = c .before .before .before .before .before .before .before .args in
-    (sized-length (a .rack .now) (sym (c .before .before .before .before .sized .ensures) ∙ on (c .before .before .before .before .sized .result) (c .before .before .before .if1 .left)), omega (arith, c .before .if3 .left))
+clear-requires c κs = (sized-length _ (long (kept c .before .before)), omega (arith, kept c .if3 .left))
 
 same-length-4 : tie.Need-same-length-4
 same-length-4 c = search needs
 
 returns-4 : tie.Need-returns-4
 returns-4 c =
-    let a = c .before .before .before .before .before .before .before .before .before .before .args in
-    let r = make-new (a .rack .now) (a .n) (sym (c .before .before .before .before .before .before .before .sized .ensures) ∙ on (c .before .before .before .before .before .before .before .sized .result) (c .before .before .before .before .before .before .if1 .left))
-    (few-good (a .n) (c .before .before .before .before .before .if2 .left) (omega (arith, c .before .before .before .before .if3 .left))) in
-    (sym (r .0), c .before .before .clear .ensures ∙ sym (r .1))
+    let k = kept (c .before .before .before) in
+    let r = make-new _ _ (long (k .before .before)) (few-good _ (k .before .if2 .left) (omega (arith, k .if3 .left))) in
+    (r .0, c .before .before .clear .ensures ∙ r .1)
 
 pub make-spec : {M : Type 1} → statement M
 make-spec =
