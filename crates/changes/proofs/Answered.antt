@@ -2,11 +2,10 @@
 use mathlib.Core.Path.{_≡_, refl, sym, ap, _∙_, subst}
 use mathlib.Core.Logic.{_≢_, inl, inr}
 use mathlib.Core.List.{List}
-use Prim.Native.Nat.{ℕ, _≤_, _<_}
+use Prim.Native.Nat.{ℕ}
 use Rattle.model.specs.State.{base, State, edge, pairs}
 use Rattle.model.specs.Bytes.{read, write}
 use Rattle.model.specs.Valid.{Valid}
-use Rattle.model.specs.Moves.{Run}
 use Rattle.model.specs.Change.{Change, Changed, lower, upper, add, drop, number, refused, done, accepted, change}
 use Rattle.model.proofs.Tests.{eq?, le?, bool-ext, T-true, T-false, eqb-yes, eqb-no, leb-yes, leb-no}
 use Rattle.model.proofs.Reading.{read-write}

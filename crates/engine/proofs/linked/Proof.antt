@@ -1,6 +1,5 @@
 -- `engine::linked` meets its contract. Assumes nothing.
 use mathlib.Core.Path.{_≡_, refl, sym, _∙_}
-use mathlib.Core.Bool.{Bool}
 use Rattle.model.specs.State.{base, edge}
 use Rattle.model.specs.Bytes.{read}
 use Rattle.model.specs.Calls.{linkedQuery, twoNumber}

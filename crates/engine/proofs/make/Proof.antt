@@ -2,6 +2,8 @@
 use mathlib.Core.Path.{_≡_, _∙_}
 use mathlib.Core.Bool.{true}
 use native.Mathlib.Omega.{arith}
+use Rattle.model.specs.State.{empty}
+use Rattle.model.specs.Bytes.{write}
 use Rattle.model.specs.Calls.{sized}
 use Rattle.engine.proofs.Numbers.{off, on, make-one, make-five, make-new, sized-length, few-bad, many-bad, few-good}
 use borrow.Author.Needs.{needs}
@@ -48,9 +50,12 @@ same-length-4 c = search needs
 
 returns-4 : tie.Need-returns-4
 returns-4 c =
+    let x = c .before .before .clear in
     let k = kept (c .before .before .before) in
-    let r = make-new _ _ (long (k .before .before)) (few-good _ (k .before .if2 .left) (omega (arith, k .if3 .left))) in
-    (r .0, c .before .before .clear .ensures ∙ r .1)
+    let n = k .before .before .before .before .before .before .args .n in
+    let r = make-new _ n (long (k .before .before)) (few-good n (k .before .if2 .left) (omega (arith, k .if3 .left))) in
+    let empties : x .last .0 ≡ write (empty n) = x .ensures in
+    (r .0, empties ∙ r .1)
 
 pub make-spec : {M : Type 1} → statement M
 make-spec =
