@@ -15,14 +15,20 @@ use Rattle.model.proofs.Tests.{eq?, le?, true-T, eqb-yes, eqb-no, leb-yes, leb-
 use Rattle.model.proofs.Facts.{sound-says}
 use Rattle.model.proofs.Reading.{read-owns}
 
--- what the test of a negation says of a flag that was read
-pub off : {r b : Bool} → r ≡ b → not r ≡ true → b ≡ false
-off {r = true} e t = sym e ∙ sym t
-off {r = false} e t = sym e
+-- what a test of a negation says, and what it says of what a flag stands for
+pub off : (b : Bool) → not b ≡ true → b ≡ false
+off true e = sym e
+off false e = refl
 
-pub on : {r b : Bool} → r ≡ b → not r ≡ false → b ≡ true
-on {r = true} e t = sym e
-on {r = false} e t = sym e ∙ sym t
+pub on : (b : Bool) → not b ≡ false → b ≡ true
+on true e = refl
+on false e = sym e
+
+pub flag-off : {r b : Bool} → r ≡ b → not r ≡ true → b ≡ false
+flag-off {r} e t = sym e ∙ off r t
+
+pub flag-on : {r b : Bool} → r ≡ b → not r ≡ false → b ≡ true
+flag-on {r} e t = sym e ∙ on r t
 
 -- what the test of a number says
 pub told : {k m : ℕ} → k ≡ m → k ≢ 0 → eqb m 0 ≡ false
@@ -62,15 +68,15 @@ module _ (bs : List ℕ) where
   good-size e = sound-says base bs .fact (true-T e) .size .1
 
   -- making: the number, and the bytes that are left
-  pub make-one : (n : ℕ) → sized bs ≡ false → (1 ≡ makeNumber bs n) × (bs ≡ made bs n)
+  pub make-one : (n : ℕ) → sized bs ≡ false → (makeNumber bs n ≡ 1) × (made bs n ≡ bs)
   unfolding makeNumber made
   make-one n e = (rw (e, makeNumber) refl, rw (e, makeNumber, made) refl)
 
-  pub make-five : (n : ℕ) → sized bs ≡ true → sizeGood n ≡ false → (5 ≡ makeNumber bs n) × (bs ≡ made bs n)
+  pub make-five : (n : ℕ) → sized bs ≡ true → sizeGood n ≡ false → (makeNumber bs n ≡ 5) × (made bs n ≡ bs)
   unfolding makeNumber made
   make-five n e f = (rw (e, f, makeNumber) refl, rw (e, f, makeNumber, made) refl)
 
-  pub make-new : (n : ℕ) → sized bs ≡ true → sizeGood n ≡ true → (0 ≡ makeNumber bs n) × (write (empty n) ≡ made bs n)
+  pub make-new : (n : ℕ) → sized bs ≡ true → sizeGood n ≡ true → (makeNumber bs n ≡ 0) × (made bs n ≡ write (empty n))
   unfolding makeNumber made
   make-new n e f = (rw (e, f, makeNumber) refl, rw (e, f, makeNumber, made) refl)
 

@@ -2,20 +2,20 @@
 use mathlib.Core.Path.{_≡_, sym, _∙_}
 use mathlib.Core.Bool.{true}
 use Rattle.model.specs.Calls.{sized}
-use Rattle.engine.proofs.Numbers.{off, on, rack-one, rack-six, rack-zero, sized-length}
+use Rattle.engine.proofs.Numbers.{flag-off, flag-on, rack-one, rack-six, rack-zero, sized-length}
 use borrow.Author.Needs.{needs}
 use Rattle.engine.proofs.rack_number.Statement.{statement}
 use Rattle.engine.proofs.rack_number.Tie as tie
 
 -- the bytes are as many as a rack has
 long : (c : tie.Else1) → sized (c .before .before .before .args .rack .now) ≡ true
-long c = on (c .before .sized .ensures) (c .if1 .left)
+long c = flag-on (c .before .sized .ensures) (c .if1 .left)
 
 sized-requires : tie.Need-sized-requires
 sized-requires c κs = search needs
 
 returns : tie.Need-returns
-returns c = sym (rack-one _ (off (c .before .sized .ensures) (c .if1 .taken)))
+returns c = sym (rack-one _ (flag-off (c .before .sized .ensures) (c .if1 .taken)))
 
 sound-requires : tie.Need-sound-requires
 sound-requires c κs = sized-length _ (long c)
