@@ -63,10 +63,11 @@ same-length-2 c = search needs
 
 returns-2 : tie.Need-returns-2
 returns-2 c =
-    let s = c .before .before .before .before .before .before .before .before .before .before .before .before in
-    c .before .before .set-mate2 .ensures
-    ∙ ap (λ (bs : List ℕ). setMate bs (s .args .v) noMate) (c .before .before .before .before .before .before .set-mate .ensures)
-    ∙ parts (s .pre .0) (s .pre .1) (c .before .before .before .before .before .before .before .before .before .mate .ensures) (c .before .before .before .before .before .before .before .before .if1 .left)
+    let once = c .before .before .before .before .before .before in
+    let mated = once .before .before in
+    let s = mated .before .before .before .before in
+    c .before .before .set-mate2 .ensures ∙ ap (λ (bs : List ℕ). setMate bs (s .args .v) noMate) (once .set-mate .ensures)
+    ∙ parts (s .pre .0) (s .pre .1) (mated .before .mate .ensures) (mated .if1 .left)
 
 pub part-spec : {M : Type 1} → statement M
 part-spec =

@@ -39,7 +39,9 @@ slice-aggregate-show c = search needs
 
 -- no more bytes were read than the text has
 few : (c : tie.After-known-told) → c .before .n .given .0 .0 ≤ length (c .before .before .before .before .read-text .last .0)
-few c = omega (arith, c .before .before .before .before .read-text .kept .0, subst (λ r. Within r _) (c .before .n .given .1) (c .before .before .before .before .read-text .ensures))
+few c =
+    let got = c .before .before .before .before .read-text in
+    omega (arith, got .kept .0, subst (λ r. Within r _) (c .before .n .given .1) (got .ensures))
 
 array-share-prefix-text : tie.Need-array-share-prefix-text
 array-share-prefix-text c = few (c .before .before)
