@@ -21,10 +21,6 @@ endRoom = 25
 abbrev pub badRoom : ℕ
 badRoom = 28
 
--- a fixed text, and a number straight after it
-unfoldable pub fieldText : List ℕ → ℕ → List ℕ
-fieldText p x = p ++ decimal x
-
 -- a line of one figure, and one of three
 unfoldable pub oneText : List ℕ → ℕ → List ℕ → List ℕ
 oneText p x e = p ++ (decimal x ++ e)
@@ -36,35 +32,17 @@ threeText p x q y r z e = p ++ (decimal x ++ (q ++ (decimal y ++ (r ++ (decimal 
 abbrev pub answered : ℕ → ℕ → ℕ → ℕ → Answer
 answered number draws falls pairs = record { number = number; draws = draws; falls = falls; pairs = pairs }
 
--- the line of a change made, and its parts as they are written
+-- the line of a change made
 abbrev pub doneText : ℕ → ℕ → ℕ → List ℕ
 doneText draws falls pairs = threeText (bytes "(done (draws ") draws (bytes ") (falls ") falls (bytes ") (pairs ") pairs (bytes "))\n")
-
-abbrev pub drawsText : ℕ → List ℕ
-drawsText draws = fieldText (bytes "(done (draws ") draws
-
-abbrev pub fallsText : ℕ → List ℕ
-fallsText falls = fieldText (bytes ") (falls ") falls
-
-abbrev pub heldText : ℕ → List ℕ
-heldText pairs = oneText (bytes ") (pairs ") pairs (bytes "))\n")
 
 -- the line of a change refused
 abbrev pub refusedText : ℕ → List ℕ
 refusedText number = oneText (bytes "(refused ") number (bytes ")\n")
 
--- "A pair's line is `(pair (A B) (level L))`, A the lower board and L their level." And its parts as they are written.
+-- "A pair's line is `(pair (A B) (level L))`, A the lower board and L their level."
 abbrev pub pairText : ℕ → ℕ → ℕ → List ℕ
 pairText a b level = threeText (bytes "(pair (") a (bytes " ") b (bytes ") (level ") level (bytes "))\n")
-
-abbrev pub firstText : ℕ → List ℕ
-firstText a = fieldText (bytes "(pair (") a
-
-abbrev pub secondText : ℕ → List ℕ
-secondText b = fieldText (bytes " ") b
-
-abbrev pub levelText : ℕ → List ℕ
-levelText level = oneText (bytes ") (level ") level (bytes "))\n")
 
 -- "The end line is `(end (pairs P))`, P the pairs then held."
 abbrev pub endText : ℕ → List ℕ

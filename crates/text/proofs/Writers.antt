@@ -1,58 +1,66 @@
--- Two writers one after the other, and three: each is lent the part after what those before it wrote. Where there is room for all their texts,
--- each part starts within the whole and has room for its text, and what was written is within the whole. Assumes nothing.
-use Prim.Native.Nat.{ℕ, _+_, _≤_}
+-- Writers one after the other, any number of them: each is lent the part after what those before it wrote. Assumes nothing.
+use Prim.Native.Nat.{ℕ, _+_, _≤_, _<_}
 use mathlib.Core.Path.{_≡_}
 use mathlib.Core.List.{List, _++_}
 use native.Mathlib.Omega.{arith}
+use mir.Syntax.{w64}
+use mir.Val.{Fits}
 use lib.ListN.{length, length-append}
+use Rattle.model.specs.Text.{decimal, largest}
 use Rattle.text.specs.Writing.{Put}
+use Rattle.text.proofs.Lengths.{figure-most}
 use Rattle.text.proofs.Over.{part, back, length-part, put-then, put-length}
 
--- room for their texts
-pub record Two (p q old : List ℕ) : Type 0 where
-  pub fit : length p + length q ≤ length old
+-- what they wrote so far, into which bytes, what these are now, and how much was written; there is room for k bytes more, and no slice is longer
+-- than a count of 64 bits can tell
+pub record Chain (k : ℕ) : Type 0 where
+  pub text : List ℕ
+  pub old : List ℕ
+  pub bytes : List ℕ
+  pub at : ℕ
+  pub put : Put text old bytes at
+  pub fit : length text + k ≤ length old
+  pub sized : length old < 18446744073709551616
 
-pub record Three (p q r old : List ℕ) : Type 0 where
-  pub fit : length p + length q + length r ≤ length old
+-- the first one wrote, and one more after those before it
+abbrev pub first : {p old w : List ℕ} {n k : ℕ} → Put p old w n → length p + k ≤ length old → length old < 18446744073709551616 → Chain k
+first {p} {old} {w} {n} f h l = record { text = p; old = old; bytes = w; at = n; put = f; fit = h; sized = l }
 
-pub three-two : {p q r old : List ℕ} → Three p q r old → Two p q old
-three-two h = record { fit = omega (arith, h .fit) }
+module _ {j r : ℕ} (x : Chain j) {q v : List ℕ} (g : Put q (part (x .at) (x .bytes)) v r) where
+  pub both : Put (x .text ++ q) (x .old) (back (x .at) (x .bytes) v) (x .at + r)
+  both = put-then (x .put) g (omega (arith, x .fit))
 
--- the first one has room
-pub two-first : {p q old : List ℕ} → Two p q old → length p ≤ length old
-two-first h = omega (arith, h .fit)
+  pub both-fit : (k : ℕ) → length q + k ≤ j → length (x .text ++ q) + k ≤ length (x .old)
+  both-fit k h = omega (arith, length-append (x .text) q, x .fit)
 
--- the second one
-module _ {p q old w : List ℕ} {n : ℕ} (h : Two p q old) (f : Put p old w n) where
-  kept : length w ≡ length old
-  kept = put-length f (two-first h)
+  abbrev pub next : {k : ℕ} → length q + k ≤ j → Chain k
+  next {k} h = record {
+    text = x .text ++ q;
+    old = x .old;
+    bytes = back (x .at) (x .bytes) v;
+    at = x .at + r;
+    put = both;
+    fit = both-fit k h;
+    sized = x .sized;
+  }
 
-  pub second-starts : n ≤ length w
-  second-starts = omega (arith, f .count, kept, h .fit)
+-- the next one starts within the bytes and has room for its text, and the bytes stay as many
+module _ {k : ℕ} (x : Chain k) where
+  pub kept : length (x .bytes) ≡ length (x .old)
+  kept = put-length (x .put) (omega (arith, x .fit))
 
-  pub second-room : length q ≤ length (part n w)
-  second-room = omega (arith, f .count, kept, h .fit, length-part n w)
+  pub counted : Fits w64 (x .at)
+  counted = omega (arith, x .put .count, x .fit, x .sized)
 
-  pub second-within : {last : List ℕ} {k : ℕ} → Put q (part n w) last k → n + k ≤ length old
-  second-within g = omega (arith, f .count, g .count, h .fit)
+  pub starts : x .at ≤ length (x .bytes)
+  starts = omega (arith, x .put .count, kept, x .fit)
 
--- the third one: what the first two wrote is one text
-module _ {p q r old w v : List ℕ} {n m : ℕ} (h : Three p q r old) (f : Put p old w n) (g : Put q (part n w) v m) where
-  both : Put (p ++ q) old (back n w v) (n + m)
-  both = put-then f g (omega (arith, h .fit))
+  pub room : (m : ℕ) → m ≤ k → m ≤ length (part (x .at) (x .bytes))
+  room m h = omega (arith, length-part (x .at) (x .bytes), kept, x .put .count, x .fit)
 
-  for-both : Two (p ++ q) r old
-  for-both = record { fit = omega (arith, h .fit, length-append p q) }
+  pub figure-room : (n : ℕ) → n ≤ largest → 10 ≤ k → length (decimal n) ≤ length (part (x .at) (x .bytes))
+  figure-room n h l = room (length (decimal n)) (omega (arith, figure-most n h))
 
-  pub third-starts : n + m ≤ length (back n w v)
-  third-starts = second-starts for-both both
-
-  pub third-room : length r ≤ length (part (n + m) (back n w v))
-  third-room = second-room for-both both
-
-  pub third-within : {last : List ℕ} {k : ℕ} → Put r (part (n + m) (back n w v)) last k → n + m + k ≤ length old
-  third-within l = second-within for-both both l
-
-  pub put-third : {last : List ℕ} {k : ℕ} → Put r (part (n + m) (back n w v)) last k
-      → Put ((p ++ q) ++ r) old (back (n + m) (back n w v) last) (n + m + k)
-  put-third l = put-then both l (two-first for-both)
+-- a figure of 32 bits takes ten of the bytes that there is room for
+pub figure : (n k j : ℕ) → n ≤ largest → 10 + k ≤ j → length (decimal n) + k ≤ j
+figure n k j h l = omega (arith, figure-most n h)

@@ -1,11 +1,10 @@
 -- `record::put_answer` meets its contract. By its number: the line of `model` is that of a change made or of one refused. Assumes nothing.
 use mathlib.Core.Path.{sym}
 use native.Mathlib.Omega.{arith}
-use native.Mathlib.Nat.{le-trans}
 use borrow.Author.Needs.{needs}
 use Rattle.text.proofs.Over.{put-as}
 use Rattle.record.specs.Line.{answered}
-use Rattle.record.proofs.Laws.{one-room, put-one-as, put-three-as, answer-done, answer-refused}
+use Rattle.record.proofs.Laws.{put-one-as, put-three-as, answer-done, answer-refused}
 use Rattle.record.proofs.put_answer.Statement.{statement}
 use Rattle.record.proofs.put_answer.Tie as tie
 
@@ -13,7 +12,7 @@ put-done-requires : tie.Need-put-done-requires
 put-done-requires c κs = search needs
 
 put-refused-requires : tie.Need-put-refused-requires
-put-refused-requires c κs = le-trans (one-room _ _ _ (omega arith)) (omega (arith, c .before .before .before .pre))
+put-refused-requires c κs = search needs
 
 same-length : tie.Need-same-length
 same-length c = search needs

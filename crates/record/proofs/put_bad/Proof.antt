@@ -1,78 +1,67 @@
--- `record::put_bad` meets its contract. A field, and a line of one figure straight after it. Assumes nothing.
-use Prim.Native.Nat.{ℕ, _≤_}
+-- `record::put_bad` meets its contract. Five writers, one straight after the other. Assumes nothing.
+use mathlib.Core.Path.{refl}
 use native.Mathlib.Omega.{arith}
-use borrow.Author.Needs.{needs}
-use Rattle.model.specs.Text.{bytes, largest}
-use Rattle.text.proofs.Over.{put-as, put-then}
-use Rattle.text.proofs.Writers.{Two, two-first, second-starts, second-room, second-within}
-use Rattle.record.specs.Line.{fieldText, oneText}
-use Rattle.record.proofs.Laws.{field-room, one-room, bad-parts, put-bad-as}
+use native.Mathlib.Nat.{le-refl}
+use Rattle.text.proofs.Writers.{Chain, first, next, kept, counted, starts, room, figure-room, figure}
+use Rattle.record.proofs.Laws.{bad-written}
 use Rattle.record.proofs.put_bad.Statement.{statement}
 use Rattle.record.proofs.put_bad.Tie as tie
 
--- for whatever figures
-room : (c : tie.Start) (k l : ℕ) → k ≤ largest → l ≤ largest → Two (fieldText (bytes "(bad ") k) (oneText (bytes " ") l (bytes ")\n")) (c .args .out .now)
-room c k l h i = record { fit = omega (arith, c .pre, field-room (bytes "(bad ") k h, one-room (bytes " ") l (bytes ")\n") i) }
+-- what is written after each writer, and how much may still be
+abbrev one : tie.After-put-literal → Chain 23
+one c = first (c .put-literal .ensures) (c .before .before .before .before .pre) (omega (arith, c .before .before .before .before .good .0 .0))
 
-slice-aggregate-put-field : tie.Need-slice-aggregate-put-field
-slice-aggregate-put-field c = search needs
+abbrev two : tie.After-put-number → Chain 13
+two c = next (one (c .before .before .before .before)) (c .put-number .ensures) (figure _ 13 23 (omega arith) (omega arith))
 
-put-field-requires : tie.Need-put-field-requires
-put-field-requires c κs = two-first (room (c .before .before .before) _ 0 (omega arith) (omega arith))
+abbrev three : tie.After-put-literal2 → Chain 12
+three c = next (two (c .before .before .before .before .before)) (c .put-literal2 .ensures) (omega arith)
 
-sub-put-one : tie.Need-sub-put-one
-sub-put-one c =
-    let s = c .before .before .before .before .before .before in
-    second-starts (room s _ 0 (omega arith) (omega arith)) (c .before .before .put-field .ensures)
+abbrev four : tie.After-put-number2 → Chain 2
+four c = next (three (c .before .before .before .before)) (c .put-number2 .ensures) (figure _ 2 12 (omega arith) (omega arith))
 
-part-put-one-start : tie.Need-part-put-one-start
-part-put-one-start c = sub-put-one c
-
-part-put-one-end : tie.Need-part-put-one-end
-part-put-one-end c = search needs
-
-slice-aggregate-put-one : tie.Need-slice-aggregate-put-one
-slice-aggregate-put-one c = search needs
-
-slice-aggregate-put-one-2 : tie.Need-slice-aggregate-put-one-2
-slice-aggregate-put-one-2 c = search needs
-
-put-one-requires : tie.Need-put-one-requires
-put-one-requires c κs =
-    let d = c .before .before .before in
-    let s = d .before .before .before .before .before .before in
-    second-room (room s _ _ (omega arith) (omega arith)) (d .before .before .put-field .ensures)
-
-add-result : tie.Need-add-result
-add-result c =
-    let d = c .before .before .before .before .before .before in
-    let s = d .before .before .before .before .before .before in
-    let f = d .before .before .put-field .ensures in
-    omega (arith, s .good .0 .0, second-within (room s _ _ (omega arith) (omega arith)) f (c .before .before .put-one .ensures))
-
-same-length : tie.Need-same-length
-same-length c = search needs
+abbrev all : tie.After-put-literal3 → Chain 0
+all c = next (four (c .before .before .before .before .before)) (c .put-literal3 .ensures) (omega arith)
 
 returns : tie.Need-returns
 returns c =
-    let d = c .before .before .before .before .before .before in
-    let s = d .before .before .before .before .before .before in
-    let f = d .before .before .put-field .ensures in
-    let w = put-then f (c .before .before .put-one .ensures) (two-first (room s _ 0 (omega arith) (omega arith))) in
-    put-bad-as _ (s .args .number) _ (s .args .line) (omega arith) (omega arith) (put-as _ _ (bad-parts _ _) w)
+    let d = c .before .before .before .before .before .before .before .before .before .before .before in
+    let a = d .before .before .before .before .before .before .before .before .before .before .before .before .before .args in
+    bad-written _ _ (all (c .before .before) .put) (a .number) (a .line) (omega arith) (omega arith)
 
 pub put-bad-spec : {M : Type 1} → statement M
 put-bad-spec =
     tie.close
     (tie.spec
-    slice-aggregate-put-field
-    put-field-requires
-    sub-put-one
-    part-put-one-start
-    part-put-one-end
-    slice-aggregate-put-one
-    slice-aggregate-put-one-2
-    put-one-requires
-    add-result
-    same-length
+    -- `(bad `
+    (λ c. refl)
+    (λ c κs. omega (arith, c .before .before .before .pre))
+    -- the number
+    (λ c. starts (one (c .before .before)))
+    (λ c. starts (one (c .before .before)))
+    (λ c. le-refl _)
+    (λ c κs. figure-room (one (c .before .before .before)) _ (omega arith) (omega arith))
+    (λ c. counted (two (c .before .before)))
+    -- the space
+    (λ c. starts (two (c .before .before)))
+    (λ c. starts (two (c .before .before)))
+    (λ c. le-refl _)
+    (λ c. refl)
+    (λ c κs. room (two (c .before .before .before .before)) _ (omega arith))
+    (λ c. counted (three (c .before .before)))
+    -- the line
+    (λ c. starts (three (c .before .before)))
+    (λ c. starts (three (c .before .before)))
+    (λ c. le-refl _)
+    (λ c κs. figure-room (three (c .before .before .before)) _ (omega arith) (omega arith))
+    (λ c. counted (four (c .before .before)))
+    -- `)`
+    (λ c. starts (four (c .before .before)))
+    (λ c. starts (four (c .before .before)))
+    (λ c. le-refl _)
+    (λ c. refl)
+    (λ c κs. room (four (c .before .before .before .before)) _ (omega arith))
+    (λ c. counted (all (c .before .before)))
+    -- the whole
+    (λ c. kept (all (c .before .before)))
     returns)

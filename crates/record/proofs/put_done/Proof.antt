@@ -1,90 +1,88 @@
--- `record::put_done` meets its contract. The three parts of a line, one straight after the other. Assumes nothing.
+-- `record::put_done` meets its contract. Seven writers, one straight after the other. Assumes nothing.
+use mathlib.Core.Path.{refl}
 use native.Mathlib.Omega.{arith}
-use native.Mathlib.Nat.{le-trans}
-use borrow.Author.Needs.{needs}
-use Rattle.text.proofs.Over.{put-as}
-use Rattle.text.proofs.Writers.{Three, three-two, two-first, second-starts, second-room, second-within}
-use Rattle.text.proofs.Writers.{third-starts, third-room, third-within, put-third}
-use Rattle.record.specs.Line.{drawsText, fallsText, heldText}
-use Rattle.record.proofs.Laws.{three-room, three-parts}
+use native.Mathlib.Nat.{le-refl}
+use Rattle.model.specs.Text.{bytes}
+use Rattle.text.proofs.Writers.{Chain, first, next, kept, counted, starts, room, figure-room, figure}
+use Rattle.record.proofs.Laws.{three-written}
 use Rattle.record.proofs.put_done.Statement.{statement}
 use Rattle.record.proofs.put_done.Tie as tie
 
-room : (c : tie.Start) → Three (drawsText (c .args .draws)) (fallsText (c .args .falls)) (heldText (c .args .pairs)) (c .args .out .now)
-room c = record { fit = le-trans (three-room _ _ _ _ _ _ _ (omega arith) (omega arith) (omega arith)) (c .pre) }
+-- what is written after each writer, and how much may still be
+abbrev one : tie.After-put-literal → Chain 51
+one c = first (c .put-literal .ensures) (c .before .before .before .before .pre) (omega (arith, c .before .before .before .before .good .0 .0))
 
-put-draws-requires : tie.Need-put-draws-requires
-put-draws-requires c κs = two-first (three-two (room (c .before .before)))
+abbrev two : tie.After-put-number → Chain 41
+two c = next (one (c .before .before .before .before)) (c .put-number .ensures) (figure _ 41 51 (omega arith) (omega arith))
 
-sub-put-falls : tie.Need-sub-put-falls
-sub-put-falls c = second-starts (three-two (room (c .before .before .before .before .before))) (c .before .before .put-draws .ensures)
+abbrev three : tie.After-put-literal2 → Chain 32
+three c = next (two (c .before .before .before .before .before)) (c .put-literal2 .ensures) (omega arith)
 
-part-put-falls-start : tie.Need-part-put-falls-start
-part-put-falls-start c = sub-put-falls c
+abbrev four : tie.After-put-number2 → Chain 22
+four c = next (three (c .before .before .before .before)) (c .put-number2 .ensures) (figure _ 22 32 (omega arith) (omega arith))
 
-part-put-falls-end : tie.Need-part-put-falls-end
-part-put-falls-end c = search needs
+abbrev five : tie.After-put-literal3 → Chain 13
+five c = next (four (c .before .before .before .before .before)) (c .put-literal3 .ensures) (omega arith)
 
-put-falls-requires : tie.Need-put-falls-requires
-put-falls-requires c κs =
-    let d = c .before in
-    second-room (three-two (room (d .before .before .before .before .before))) (d .before .before .put-draws .ensures)
+abbrev six : tie.After-put-number3 → Chain 3
+six c = next (five (c .before .before .before .before)) (c .put-number3 .ensures) (figure _ 3 13 (omega arith) (omega arith))
 
-add-at : tie.Need-add-at
-add-at c =
-    let s = c .before .before .before .before .before .before .before .before .before in
-    let f = c .before .before .before .before .before .before .put-draws .ensures in
-    omega (arith, s .good .0 .0, second-within (three-two (room s)) f (c .before .before .put-falls .ensures))
-
-sub-put-held : tie.Need-sub-put-held
-sub-put-held c =
-    let f = c .before .before .before .before .before .before .put-draws .ensures in
-    third-starts (room (c .before .before .before .before .before .before .before .before .before)) f (c .before .before .put-falls .ensures)
-
-part-put-held-start : tie.Need-part-put-held-start
-part-put-held-start c = sub-put-held c
-
-part-put-held-end : tie.Need-part-put-held-end
-part-put-held-end c = search needs
-
-put-held-requires : tie.Need-put-held-requires
-put-held-requires c κs =
-    let d = c .before in
-    let f = d .before .before .before .before .before .before .put-draws .ensures in
-    third-room (room (d .before .before .before .before .before .before .before .before .before)) f (d .before .before .put-falls .ensures)
-
-add-result : tie.Need-add-result
-add-result c =
-    let d = c .before .before .before .before in
-    let s = d .before .before .before .before .before .before .before .before .before in
-    let f = d .before .before .before .before .before .before .put-draws .ensures in
-    omega (arith, s .good .0 .0, third-within (room s) f (d .before .before .put-falls .ensures) (c .before .before .put-held .ensures))
-
-same-length : tie.Need-same-length
-same-length c = search needs
+abbrev all : tie.After-put-literal4 → Chain 0
+all c = next (six (c .before .before .before .before .before)) (c .put-literal4 .ensures) (omega arith)
 
 returns : tie.Need-returns
 returns c =
-    let d = c .before .before .before .before in
-    let s = d .before .before .before .before .before .before .before .before .before in
-    let f = d .before .before .before .before .before .before .put-draws .ensures in
-    put-as _ _ (three-parts _ (s .args .draws) _ (s .args .falls) _ (s .args .pairs) _)
-    (put-third (room s) f (d .before .before .put-falls .ensures) (c .before .before .put-held .ensures))
+    let d = c .before .before .before .before .before .before .before .before .before .before .before .before .before .before .before .before .before in
+    let a = d .before .before .before .before .before .before .before .before .before .before .before .before .before .before .before .before .args in
+    three-written (bytes "(done (draws ") _ (bytes ") (falls ") _ (bytes ") (pairs ") _ (bytes "))\n") (all (c .before .before) .put)
+    (a .draws) (a .falls) (a .pairs) (omega arith) (omega arith) (omega arith)
 
 pub put-done-spec : {M : Type 1} → statement M
 put-done-spec =
     tie.close
     (tie.spec
-    put-draws-requires
-    sub-put-falls
-    part-put-falls-start
-    part-put-falls-end
-    put-falls-requires
-    add-at
-    sub-put-held
-    part-put-held-start
-    part-put-held-end
-    put-held-requires
-    add-result
-    same-length
+    -- `(done (draws `
+    (λ c. refl)
+    (λ c κs. omega (arith, c .before .before .before .pre))
+    -- draws
+    (λ c. starts (one (c .before .before)))
+    (λ c. starts (one (c .before .before)))
+    (λ c. le-refl _)
+    (λ c κs. figure-room (one (c .before .before .before)) _ (omega arith) (omega arith))
+    (λ c. counted (two (c .before .before)))
+    -- `) (falls `
+    (λ c. starts (two (c .before .before)))
+    (λ c. starts (two (c .before .before)))
+    (λ c. le-refl _)
+    (λ c. refl)
+    (λ c κs. room (two (c .before .before .before .before)) _ (omega arith))
+    (λ c. counted (three (c .before .before)))
+    -- falls
+    (λ c. starts (three (c .before .before)))
+    (λ c. starts (three (c .before .before)))
+    (λ c. le-refl _)
+    (λ c κs. figure-room (three (c .before .before .before)) _ (omega arith) (omega arith))
+    (λ c. counted (four (c .before .before)))
+    -- `) (pairs `
+    (λ c. starts (four (c .before .before)))
+    (λ c. starts (four (c .before .before)))
+    (λ c. le-refl _)
+    (λ c. refl)
+    (λ c κs. room (four (c .before .before .before .before)) _ (omega arith))
+    (λ c. counted (five (c .before .before)))
+    -- pairs
+    (λ c. starts (five (c .before .before)))
+    (λ c. starts (five (c .before .before)))
+    (λ c. le-refl _)
+    (λ c κs. figure-room (five (c .before .before .before)) _ (omega arith) (omega arith))
+    (λ c. counted (six (c .before .before)))
+    -- `))`
+    (λ c. starts (six (c .before .before)))
+    (λ c. starts (six (c .before .before)))
+    (λ c. le-refl _)
+    (λ c. refl)
+    (λ c κs. room (six (c .before .before .before .before)) _ (omega arith))
+    (λ c. counted (all (c .before .before)))
+    -- the whole
+    (λ c. kept (all (c .before .before)))
     returns)

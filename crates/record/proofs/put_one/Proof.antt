@@ -1,60 +1,55 @@
--- `record::put_one` meets its contract. A field, and a text straight after it. Assumes nothing.
+-- `record::put_one` meets its contract. Three writers, one straight after the other. Assumes nothing.
+use Prim.Native.Nat.{_+_, _≤_}
 use native.Mathlib.Omega.{arith}
-use borrow.Author.Needs.{needs}
-use Rattle.text.proofs.Over.{put-as, put-then}
-use Rattle.text.proofs.Writers.{Two, two-first, second-starts, second-room, second-within}
-use Rattle.record.specs.Line.{fieldText}
-use Rattle.record.proofs.Laws.{field-length, one-length, one-parts}
+use native.Mathlib.Nat.{le-refl}
+use lib.ListN.{length}
+use Rattle.model.specs.Text.{decimal}
+use Rattle.text.proofs.Writers.{Chain, first, next, kept, counted, starts, room}
+use Rattle.record.proofs.Laws.{one-length, one-written}
 use Rattle.record.proofs.put_one.Statement.{statement}
 use Rattle.record.proofs.put_one.Tie as tie
 
-room : (c : tie.Start) → Two (fieldText (c .args .p .now) (c .args .x)) (c .args .e .now) (c .args .out .now)
-room c =
-    let a = c .args in
-    record { fit = omega (arith, c .pre, one-length (a .p .now) (a .x) (a .e .now), field-length (a .p .now) (a .x)) }
+-- there is room for the three texts
+fit : (s : tie.Start) → length (s .args .p .now) + (length (decimal (s .args .x)) + length (s .args .e .now)) ≤ length (s .args .out .now)
+fit s = omega (arith, s .pre, one-length (s .args .p .now) (s .args .x) (s .args .e .now))
 
-put-field-requires : tie.Need-put-field-requires
-put-field-requires c κs = two-first (room (c .before .before .before .before))
+-- what is written after each writer, and how much may still be
+abbrev one : (c : tie.After-put-literal) →
+    let a = c .before .before .before .before .before .args in
+    Chain (length (decimal (a .x)) + length (a .e .now))
+one c =
+    let s = c .before .before .before .before .before in
+    first (c .put-literal .ensures) (fit s) (omega (arith, s .good .0 .0))
 
-sub-put-literal : tie.Need-sub-put-literal
-sub-put-literal c = second-starts (room (c .before .before .before .before .before .before .before)) (c .before .before .put-field .ensures)
+abbrev two : (c : tie.After-put-number) → Chain (length (c .before .before .before .before .before .before .before .before .before .args .e .now))
+two c = next (one (c .before .before .before .before)) (c .put-number .ensures) (le-refl _)
 
-part-put-literal-start : tie.Need-part-put-literal-start
-part-put-literal-start c = sub-put-literal c
-
-part-put-literal-end : tie.Need-part-put-literal-end
-part-put-literal-end c = search needs
-
-put-literal-requires : tie.Need-put-literal-requires
-put-literal-requires c κs =
-    let d = c .before in
-    second-room (room (d .before .before .before .before .before .before .before)) (d .before .before .put-field .ensures)
-
-add-result : tie.Need-add-result
-add-result c =
-    let d = c .before .before .before .before in
-    let s = d .before .before .before .before .before .before .before in
-    omega (arith, s .good .0 .0, second-within (room s) (d .before .before .put-field .ensures) (c .before .before .put-literal .ensures))
-
-same-length : tie.Need-same-length
-same-length c = search needs
+abbrev all : tie.After-put-literal2 → Chain 0
+all c = next (two (c .before .before .before .before)) (c .put-literal2 .ensures) (omega arith)
 
 returns : tie.Need-returns
 returns c =
-    let d = c .before .before .before .before in
-    let s = d .before .before .before .before .before .before .before in
-    put-as _ _ (one-parts (s .args .p .now) (s .args .x) (s .args .e .now))
-    (put-then (d .before .before .put-field .ensures) (c .before .before .put-literal .ensures) (two-first (room s)))
+    let a = c .before .before .before .before .before .before .before .before .before .before .before .before .before .before .before .args in
+    one-written (a .p .now) _ (a .e .now) (all (c .before .before) .put) (a .x) (omega arith)
 
 pub put-one-spec : {M : Type 1} → statement M
 put-one-spec =
     tie.close
     (tie.spec
-    put-field-requires
-    sub-put-literal
-    part-put-literal-start
-    part-put-literal-end
-    put-literal-requires
-    add-result
-    same-length
+    -- the text before
+    (λ c κs. omega (arith, fit (c .before .before .before .before)))
+    -- the figure
+    (λ c. starts (one (c .before .before)))
+    (λ c. starts (one (c .before .before)))
+    (λ c. le-refl _)
+    (λ c κs. room (one (c .before .before .before)) _ (omega arith))
+    (λ c. counted (two (c .before .before)))
+    -- the text after
+    (λ c. starts (two (c .before .before)))
+    (λ c. starts (two (c .before .before)))
+    (λ c. le-refl _)
+    (λ c κs. room (two (c .before .before .before)) _ (le-refl _))
+    (λ c. counted (all (c .before .before)))
+    -- the whole
+    (λ c. kept (all (c .before .before)))
     returns)

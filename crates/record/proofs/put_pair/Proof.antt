@@ -1,90 +1,88 @@
--- `record::put_pair` meets its contract. The three parts of a line, one straight after the other. Assumes nothing.
+-- `record::put_pair` meets its contract. Seven writers, one straight after the other. Assumes nothing.
+use mathlib.Core.Path.{refl}
 use native.Mathlib.Omega.{arith}
-use native.Mathlib.Nat.{le-trans}
-use borrow.Author.Needs.{needs}
-use Rattle.text.proofs.Over.{put-as}
-use Rattle.text.proofs.Writers.{Three, three-two, two-first, second-starts, second-room, second-within}
-use Rattle.text.proofs.Writers.{third-starts, third-room, third-within, put-third}
-use Rattle.record.specs.Line.{firstText, secondText, levelText}
-use Rattle.record.proofs.Laws.{three-room, three-parts}
+use native.Mathlib.Nat.{le-refl}
+use Rattle.model.specs.Text.{bytes}
+use Rattle.text.proofs.Writers.{Chain, first, next, kept, counted, starts, room, figure-room, figure}
+use Rattle.record.proofs.Laws.{three-written}
 use Rattle.record.proofs.put_pair.Statement.{statement}
 use Rattle.record.proofs.put_pair.Tie as tie
 
-room : (c : tie.Start) → Three (firstText (c .args .a)) (secondText (c .args .b)) (levelText (c .args .level)) (c .args .out .now)
-room c = record { fit = le-trans (three-room _ _ _ _ _ _ _ (omega arith) (omega arith) (omega arith)) (c .pre) }
+-- what is written after each writer, and how much may still be
+abbrev one : tie.After-put-literal → Chain 43
+one c = first (c .put-literal .ensures) (c .before .before .before .before .pre) (omega (arith, c .before .before .before .before .good .0 .0))
 
-put-first-requires : tie.Need-put-first-requires
-put-first-requires c κs = two-first (three-two (room (c .before .before)))
+abbrev two : tie.After-put-number → Chain 33
+two c = next (one (c .before .before .before .before)) (c .put-number .ensures) (figure _ 33 43 (omega arith) (omega arith))
 
-sub-put-second : tie.Need-sub-put-second
-sub-put-second c = second-starts (three-two (room (c .before .before .before .before .before))) (c .before .before .put-first .ensures)
+abbrev three : tie.After-put-literal2 → Chain 32
+three c = next (two (c .before .before .before .before .before)) (c .put-literal2 .ensures) (omega arith)
 
-part-put-second-start : tie.Need-part-put-second-start
-part-put-second-start c = sub-put-second c
+abbrev four : tie.After-put-number2 → Chain 22
+four c = next (three (c .before .before .before .before)) (c .put-number2 .ensures) (figure _ 22 32 (omega arith) (omega arith))
 
-part-put-second-end : tie.Need-part-put-second-end
-part-put-second-end c = search needs
+abbrev five : tie.After-put-literal3 → Chain 13
+five c = next (four (c .before .before .before .before .before)) (c .put-literal3 .ensures) (omega arith)
 
-put-second-requires : tie.Need-put-second-requires
-put-second-requires c κs =
-    let d = c .before in
-    second-room (three-two (room (d .before .before .before .before .before))) (d .before .before .put-first .ensures)
+abbrev six : tie.After-put-number3 → Chain 3
+six c = next (five (c .before .before .before .before)) (c .put-number3 .ensures) (figure _ 3 13 (omega arith) (omega arith))
 
-add-at : tie.Need-add-at
-add-at c =
-    let s = c .before .before .before .before .before .before .before .before .before in
-    let f = c .before .before .before .before .before .before .put-first .ensures in
-    omega (arith, s .good .0 .0, second-within (three-two (room s)) f (c .before .before .put-second .ensures))
-
-sub-put-level : tie.Need-sub-put-level
-sub-put-level c =
-    let f = c .before .before .before .before .before .before .put-first .ensures in
-    third-starts (room (c .before .before .before .before .before .before .before .before .before)) f (c .before .before .put-second .ensures)
-
-part-put-level-start : tie.Need-part-put-level-start
-part-put-level-start c = sub-put-level c
-
-part-put-level-end : tie.Need-part-put-level-end
-part-put-level-end c = search needs
-
-put-level-requires : tie.Need-put-level-requires
-put-level-requires c κs =
-    let d = c .before in
-    let f = d .before .before .before .before .before .before .put-first .ensures in
-    third-room (room (d .before .before .before .before .before .before .before .before .before)) f (d .before .before .put-second .ensures)
-
-add-result : tie.Need-add-result
-add-result c =
-    let d = c .before .before .before .before in
-    let s = d .before .before .before .before .before .before .before .before .before in
-    let f = d .before .before .before .before .before .before .put-first .ensures in
-    omega (arith, s .good .0 .0, third-within (room s) f (d .before .before .put-second .ensures) (c .before .before .put-level .ensures))
-
-same-length : tie.Need-same-length
-same-length c = search needs
+abbrev all : tie.After-put-literal4 → Chain 0
+all c = next (six (c .before .before .before .before .before)) (c .put-literal4 .ensures) (omega arith)
 
 returns : tie.Need-returns
 returns c =
-    let d = c .before .before .before .before in
-    let s = d .before .before .before .before .before .before .before .before .before in
-    let f = d .before .before .before .before .before .before .put-first .ensures in
-    put-as _ _ (three-parts _ (s .args .a) _ (s .args .b) _ (s .args .level) _)
-    (put-third (room s) f (d .before .before .put-second .ensures) (c .before .before .put-level .ensures))
+    let d = c .before .before .before .before .before .before .before .before .before .before .before .before .before .before .before .before .before in
+    let a = d .before .before .before .before .before .before .before .before .before .before .before .before .before .before .before .before .args in
+    three-written (bytes "(pair (") _ (bytes " ") _ (bytes ") (level ") _ (bytes "))\n") (all (c .before .before) .put)
+    (a .a) (a .b) (a .level) (omega arith) (omega arith) (omega arith)
 
 pub put-pair-spec : {M : Type 1} → statement M
 put-pair-spec =
     tie.close
     (tie.spec
-    put-first-requires
-    sub-put-second
-    part-put-second-start
-    part-put-second-end
-    put-second-requires
-    add-at
-    sub-put-level
-    part-put-level-start
-    part-put-level-end
-    put-level-requires
-    add-result
-    same-length
+    -- `(pair (`
+    (λ c. refl)
+    (λ c κs. omega (arith, c .before .before .before .pre))
+    -- the lower vertex
+    (λ c. starts (one (c .before .before)))
+    (λ c. starts (one (c .before .before)))
+    (λ c. le-refl _)
+    (λ c κs. figure-room (one (c .before .before .before)) _ (omega arith) (omega arith))
+    (λ c. counted (two (c .before .before)))
+    -- the space
+    (λ c. starts (two (c .before .before)))
+    (λ c. starts (two (c .before .before)))
+    (λ c. le-refl _)
+    (λ c. refl)
+    (λ c κs. room (two (c .before .before .before .before)) _ (omega arith))
+    (λ c. counted (three (c .before .before)))
+    -- the other
+    (λ c. starts (three (c .before .before)))
+    (λ c. starts (three (c .before .before)))
+    (λ c. le-refl _)
+    (λ c κs. figure-room (three (c .before .before .before)) _ (omega arith) (omega arith))
+    (λ c. counted (four (c .before .before)))
+    -- `) (level `
+    (λ c. starts (four (c .before .before)))
+    (λ c. starts (four (c .before .before)))
+    (λ c. le-refl _)
+    (λ c. refl)
+    (λ c κs. room (four (c .before .before .before .before)) _ (omega arith))
+    (λ c. counted (five (c .before .before)))
+    -- the level
+    (λ c. starts (five (c .before .before)))
+    (λ c. starts (five (c .before .before)))
+    (λ c. le-refl _)
+    (λ c κs. figure-room (five (c .before .before .before)) _ (omega arith) (omega arith))
+    (λ c. counted (six (c .before .before)))
+    -- `))`
+    (λ c. starts (six (c .before .before)))
+    (λ c. starts (six (c .before .before)))
+    (λ c. le-refl _)
+    (λ c. refl)
+    (λ c κs. room (six (c .before .before .before .before)) _ (omega arith))
+    (λ c. counted (all (c .before .before)))
+    -- the whole
+    (λ c. kept (all (c .before .before)))
     returns)

@@ -1,100 +1,48 @@
--- `record::put_refused` meets its contract. A fixed text, a number and a fixed text, one straight after the other. Assumes nothing.
+-- `record::put_refused` meets its contract. Three writers, one straight after the other. Assumes nothing.
+use mathlib.Core.Path.{refl}
 use native.Mathlib.Omega.{arith}
-use borrow.Author.Needs.{needs}
-use Rattle.model.specs.Text.{bytes, decimal}
-use Rattle.text.proofs.Over.{put-as}
-use Rattle.text.proofs.Writers.{Three, three-two, two-first, second-starts, second-room, second-within}
-use Rattle.text.proofs.Writers.{third-starts, third-room, third-within, put-third}
-use Rattle.record.specs.Line.{fieldText}
-use Rattle.record.proofs.Laws.{one-length, one-parts}
+use native.Mathlib.Nat.{le-refl}
+use Rattle.model.specs.Text.{bytes}
+use Rattle.text.proofs.Writers.{Chain, first, next, kept, counted, starts, room, figure-room, figure}
+use Rattle.record.proofs.Laws.{one-written}
 use Rattle.record.proofs.put_refused.Statement.{statement}
 use Rattle.record.proofs.put_refused.Tie as tie
 
-room : (c : tie.Start) → Three (bytes "(refused ") (decimal (c .args .number)) (bytes ")\n") (c .args .out .now)
-room c = record { fit = rw one-length at (c .pre) }
+-- what is written after each writer, and how much may still be
+abbrev one : tie.After-put-literal → Chain 55
+one c = first (c .put-literal .ensures) (c .before .before .before .before .pre) (omega (arith, c .before .before .before .before .good .0 .0))
 
-slice-aggregate-put-literal : tie.Need-slice-aggregate-put-literal
-slice-aggregate-put-literal c = search needs
+abbrev two : tie.After-put-number → Chain 45
+two c = next (one (c .before .before .before .before)) (c .put-number .ensures) (figure _ 45 55 (omega arith) (omega arith))
 
-put-literal-requires : tie.Need-put-literal-requires
-put-literal-requires c κs = two-first (three-two (room (c .before .before .before)))
-
-sub-put-number : tie.Need-sub-put-number
-sub-put-number c = second-starts (three-two (room (c .before .before .before .before .before .before))) (c .before .before .put-literal .ensures)
-
-part-put-number-start : tie.Need-part-put-number-start
-part-put-number-start c = sub-put-number c
-
-part-put-number-end : tie.Need-part-put-number-end
-part-put-number-end c = search needs
-
-put-number-requires : tie.Need-put-number-requires
-put-number-requires c κs =
-    let d = c .before in
-    second-room (three-two (room (d .before .before .before .before .before .before))) (d .before .before .put-literal .ensures)
-
-add-at : tie.Need-add-at
-add-at c =
-    let s = c .before .before .before .before .before .before .before .before .before .before in
-    let f = c .before .before .before .before .before .before .put-literal .ensures in
-    omega (arith, s .good .0 .0, second-within (three-two (room s)) f (c .before .before .put-number .ensures))
-
-sub-put-literal : tie.Need-sub-put-literal
-sub-put-literal c =
-    let f = c .before .before .before .before .before .before .put-literal .ensures in
-    third-starts (room (c .before .before .before .before .before .before .before .before .before .before)) f (c .before .before .put-number .ensures)
-
-part-put-literal-start : tie.Need-part-put-literal-start
-part-put-literal-start c = sub-put-literal c
-
-part-put-literal-end : tie.Need-part-put-literal-end
-part-put-literal-end c = search needs
-
-slice-aggregate-put-literal-2 : tie.Need-slice-aggregate-put-literal-2
-slice-aggregate-put-literal-2 c = search needs
-
-put-literal-requires-2 : tie.Need-put-literal-requires-2
-put-literal-requires-2 c κs =
-    let d = c .before .before in
-    let f = d .before .before .before .before .before .before .put-literal .ensures in
-    third-room (room (d .before .before .before .before .before .before .before .before .before .before)) f (d .before .before .put-number .ensures)
-
-add-result : tie.Need-add-result
-add-result c =
-    let d = c .before .before .before .before .before in
-    let s = d .before .before .before .before .before .before .before .before .before .before in
-    let f = d .before .before .before .before .before .before .put-literal .ensures in
-    let g = d .before .before .put-number .ensures in
-    omega (arith, s .good .0 .0, third-within (room s) f g (c .before .before .put-literal2 .ensures))
-
-same-length : tie.Need-same-length
-same-length c = search needs
+abbrev all : tie.After-put-literal2 → Chain 43
+all c = next (two (c .before .before .before .before .before)) (c .put-literal2 .ensures) (omega arith)
 
 returns : tie.Need-returns
-unfolding fieldText
 returns c =
-    let d = c .before .before .before .before .before in
-    let s = d .before .before .before .before .before .before .before .before .before .before in
-    let f = d .before .before .before .before .before .before .put-literal .ensures in
-    let g = d .before .before .put-number .ensures in
-    put-as _ _ (one-parts _ (s .args .number) _) (put-third (room s) f g (c .before .before .put-literal2 .ensures))
+    let a = c .before .before .before .before .before .before .before .before .before .before .before .before .before .before .before .args in
+    one-written (bytes "(refused ") _ (bytes ")\n") (all (c .before .before) .put) (a .number) (omega arith)
 
 pub put-refused-spec : {M : Type 1} → statement M
 put-refused-spec =
     tie.close
     (tie.spec
-    slice-aggregate-put-literal
-    put-literal-requires
-    sub-put-number
-    part-put-number-start
-    part-put-number-end
-    put-number-requires
-    add-at
-    sub-put-literal
-    part-put-literal-start
-    part-put-literal-end
-    slice-aggregate-put-literal-2
-    put-literal-requires-2
-    add-result
-    same-length
+    -- `(refused `
+    (λ c. refl)
+    (λ c κs. omega (arith, c .before .before .before .pre))
+    -- the number
+    (λ c. starts (one (c .before .before)))
+    (λ c. starts (one (c .before .before)))
+    (λ c. le-refl _)
+    (λ c κs. figure-room (one (c .before .before .before)) _ (omega arith) (omega arith))
+    (λ c. counted (two (c .before .before)))
+    -- `)`
+    (λ c. starts (two (c .before .before)))
+    (λ c. starts (two (c .before .before)))
+    (λ c. le-refl _)
+    (λ c. refl)
+    (λ c κs. room (two (c .before .before .before .before)) _ (omega arith))
+    (λ c. counted (all (c .before .before)))
+    -- the whole
+    (λ c. kept (all (c .before .before)))
     returns)
