@@ -7,8 +7,8 @@ use mathlib.Core.List.{List}
 use Prim.Native.Nat.{ℕ, _<_}
 use lib.Dec.{eqb}
 use Rattle.model.specs.State.{State, phi, edges}
-use Rattle.model.specs.Bytes.{noMate, edgesAt, rankAt, phiAt, Fields, image, mateEntry, fieldsOf, write}
-use Rattle.model.proofs.Fields.{image-length, edges-image, rank-image, phi-image}
+use Rattle.model.specs.Bytes.{noMate, edgesAt, phiAt, Fields, image, mateEntry, fieldsOf, write}
+use Rattle.model.proofs.Fields.{image-length, edges-image, phi-image}
 use Rattle.layout.specs.Setters.{Sized, setEdges, own, disown}
 use Rattle.layout.proofs.Images.{image-ext, withEdges, withOwns, setEdges-image, own-image, disown-image}
 use Rattle.layout.proofs.Tables.{entry-is}
@@ -52,23 +52,13 @@ module _ (s t : State) where
   pub turned-sized : Sized (image (turned s t))
   turned-sized = image-length (turned s t)
 
-  pub turned-rank : (v : ℕ) → v < 256 → rankAt (image (turned s t)) v ≡ s .rank v
-  unfolding turned ownersOf
-  turned-rank v l = rank-image (turned s t) v l
-
   pub turned-phi : (v x : ℕ) → v < 256 → x < 4 → phiAt (image (turned s t)) v x ≡ phi s v x
   unfolding turned ownersOf
   turned-phi v x l k = phi-image (turned s t) v x l k
 
-  pub halfway-sized : (a : ℕ) → Sized (image (halfway a s t))
-  halfway-sized a = image-length (halfway a s t)
-
   pub halfway-phi : (a v x : ℕ) → v < 256 → x < 4 → phiAt (image (halfway a s t)) v x ≡ half a s t v x
   unfolding halfway withCounts
   halfway-phi a v x l k = phi-image (halfway a s t) v x l k
-
-  pub counted-sized : Sized (image (counted s t))
-  counted-sized = image-length (counted s t)
 
   pub counted-edges : edgesAt (image (counted s t)) ≡ edges s
   unfolding counted withCounts turned ownersOf
