@@ -1,6 +1,7 @@
 /*
  * Empty slices: a length of 0 with a null pointer, or one to where nothing may be read or written. Each call is made so with each of its slices,
- * and with all at once; it must be turned back with the number that fits, every figure 0, and leave what else is lent as it was.
+ * and with all at once; it must be turned back with the number that fits, every figure 0, and leave what else is lent as it was. Only a text of no
+ * bytes is taken, if the rest that is lent is in order.
  */
 #include <inttypes.h>
 #include <stdio.h>
@@ -48,9 +49,25 @@ static void run(uint8_t *bytes, size_t len, const uint8_t *text, size_t text_len
     size_t line = UNWRITTEN, length = UNWRITTEN;
     uint32_t number = pairing_run(bytes, len, text, text_len, room, room_len, &line, &length);
 
-    /* An empty text has its first bad line at 1. */
-    same("line", line, wanted == PAIRING_BAD_LINE ? 1 : 0);
+    same("line", line, 0);
     refused(number, wanted, length);
+}
+
+/* The text of no bytes: its record, with the bytes past it and the rack as they were. */
+static void blank(const uint8_t *text)
+{
+    static const char record[] = "(end (pairs 0))\n";
+    const size_t size = sizeof record - 1;
+    size_t line = UNWRITTEN, length = UNWRITTEN;
+
+    calls++;
+    same("number of a blank paper", pairing_run(rack, sizeof rack, text, 0, space, sizeof space, &line, &length), PAIRING_OK);
+    same("its line", line, 0);
+    same("its length", length, size);
+    same("its record", memcmp(space, record, size) == 0, 1);
+    same("its space past the record", memcmp(space + size, space_before + size, sizeof space - size) == 0, 1);
+    same("its rack", memcmp(rack, rack_before, sizeof rack) == 0, 1);
+    memcpy(space, space_before, size);
 }
 
 static void with(void *any)
@@ -73,7 +90,8 @@ static void with(void *any)
     change(rack, sizeof rack, any, 0, PAIRING_TOO_FEW_WORDS);
     change(any, 0, any, 0, PAIRING_BAD_LENGTH);
     run(any, 0, text, sizeof text - 1, space, sizeof space, PAIRING_BAD_LENGTH);
-    run(rack, sizeof rack, any, 0, space, sizeof space, PAIRING_BAD_LINE);
+    blank(any);
+    run(rack, sizeof rack, any, 0, space, sizeof space - 1, PAIRING_SHORT_SPACE);
     run(rack, sizeof rack, text, sizeof text - 1, any, 0, PAIRING_SHORT_SPACE);
     run(any, 0, any, 0, any, 0, PAIRING_BAD_LENGTH);
 }
@@ -92,6 +110,6 @@ int main(void)
     memcpy(space_before, space, sizeof space);
     for (k = 0; k < sizeof pointers / sizeof *pointers; k++)
         with((void *)pointers[k]);
-    printf("empty slices with any pointer: %u calls turned back as stated\n", calls);
+    printf("empty slices with any pointer: %u calls answered as stated\n", calls);
     return 0;
 }

@@ -18,12 +18,23 @@ pub struct Outcome {
     pub length: usize,
 }
 
+/// The record of a text of no bytes.
+const BLANK: &[u8] = b"(end (pairs 0))\n";
+
 /// Runs a text. Turned back, it writes nothing; otherwise the rack holds the
-/// last state and the record stands at the start of its space. No change
-/// within a run is audited: the rack is made here and stays sound.
+/// last state, or what it held if the text has no bytes, and the record stands
+/// at the start of its space. No change within a run is audited: the rack is
+/// made here and stays sound.
 pub fn run(rack: &mut RackBytes, text: &[u8], space: &mut [u8]) -> Outcome {
     let trace = match wanted(text, space.len()) {
-        Ok(trace) => trace,
+        Ok(Some(trace)) => trace,
+        Ok(None) => {
+            space[..BLANK.len()].copy_from_slice(BLANK);
+            return Outcome {
+                length: BLANK.len(),
+                ..Outcome::default()
+            };
+        }
         Err((number, line)) => {
             return Outcome {
                 number,
@@ -49,19 +60,23 @@ pub fn run(rack: &mut RackBytes, text: &[u8], space: &mut [u8]) -> Outcome {
     }
 }
 
-/// Numbers 2 to 5, first fit first, with the line of 4; otherwise the trace.
-fn wanted(text: &[u8], space: usize) -> Result<Trace<'_>, (u32, usize)> {
+/// Numbers 2 to 5, first fit first, with the line of 4; otherwise the trace, or
+/// none if the text has no bytes.
+fn wanted(text: &[u8], space: usize) -> Result<Option<Trace<'_>>, (u32, usize)> {
     if text.len() > TEXT_LIMIT {
         return Err((2, 0));
     }
     if space < RECORD_SPACE {
         return Err((3, 0));
     }
+    if text.is_empty() {
+        return Ok(None);
+    }
     let trace = text::read(text).map_err(|line| (4, line))?;
     if !(1..=256).contains(&trace.vertices) {
         return Err((5, 0));
     }
-    Ok(trace)
+    Ok(Some(trace))
 }
 
 /// One change of a run; the pairs held are kept from change to change.

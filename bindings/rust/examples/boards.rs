@@ -49,6 +49,9 @@ fn print_boards(text: &[u8]) -> Result<(), String> {
         ));
     }
     outcome.result().map_err(|number| number.to_string())?;
+    if text.is_empty() {
+        return Err("the trace has no line, so no rack was set: name its boards in line 1".into());
+    }
     let n = usize::from(rack[0]) + 256 * usize::from(rack[1]);
     println!("board  level  mate  counts 0-3   owns links to");
     (0..n)

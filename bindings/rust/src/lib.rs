@@ -50,6 +50,11 @@
 //! // Without its last byte the text's third line doesn't fit.
 //! let outcome = pairing::run(&mut rack, &text[..text.len() - 1], &mut space);
 //! assert_eq!((outcome.number, outcome.line), (Number::BAD_LINE, 3));
+//!
+//! // A text of no bytes gets a record too, and leaves the rack as it is.
+//! let length = pairing::run(&mut rack, b"", &mut space).result()?;
+//! assert_eq!(&space[..length], b"(end (pairs 0))\n");
+//! assert!(pairing::linked(&rack, 0, 1).result()?);
 //! # Ok::<(), Number>(())
 //! ```
 //!
@@ -169,7 +174,8 @@ pub fn change(rack: &mut [u8], code: u32, a: u32, b: u32, words: &[u32]) -> Answ
 
 /// Runs a trace text: the rack that it asks for is made in the buffer and
 /// changed line by line, and the record stands at the start of the space, whose
-/// further bytes keep their values. The number is 0 to 5.
+/// further bytes keep their values. A text of no bytes sets no rack: the buffer
+/// keeps its bytes, and the record is `(end (pairs 0))`. The number is 0 to 5.
 pub fn run(rack: &mut [u8], text: &[u8], space: &mut [u8]) -> Outcome {
     let [mut line, mut length] = [UNWRITTEN as usize; 2];
     // SAFETY: the slices are lent for the call, the text only to be read; the figures are locals.

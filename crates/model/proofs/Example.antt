@@ -1,12 +1,12 @@
 -- The worked example of document 01: its trace text is the printed form of a trace, and the record of that trace, computed from the
--- definitions, is the record in the paper, to the byte. Assumes nothing.
-use mathlib.Core.Path.{_≡_, refl, subst}
+-- definitions, is the record in the paper, to the byte. And the empty text, P12. Assumes nothing.
+use mathlib.Core.Path.{_≡_, refl, ap, subst}
 use mathlib.Core.Logic.{_⊎_, inl, inr}
 use mathlib.Core.Bool.{true}
 use mathlib.Core.List.{List, [], _∷_}
 use Prim.Native.Nat.{ℕ, _≤_}
 use native.Mathlib.Omega.{arith}
-use lib.ListN.{length}
+use lib.ListN.{length, getD}
 use Rattle.model.specs.State.{base, empty}
 use Rattle.model.specs.Bytes.{write}
 use Rattle.model.specs.Sound.{sizeGood}
@@ -14,7 +14,7 @@ use Rattle.model.specs.Calls.{sized}
 use Rattle.model.specs.Text.{bytes, decimalIn, decimal, texts, over}
 use Rattle.model.specs.Trace.{Trace, LineChange, Holds, rackLine, codeText, wordText, changeLine, traceText, onFirst, linesOf, FirstBad}
 use Rattle.model.specs.Record.{answerLine, pairLine, endLine, pairLines, after, changesText, recordText}
-use Rattle.model.specs.Run.{Ran, ran, longest, spaceLength}
+use Rattle.model.specs.Run.{Ran, blank, ran, recorded, longest, spaceLength}
 use Rattle.model.proofs.Table.{adds, drops, computed}
 use Rattle.model.proofs.Bench.{zeros}
 
@@ -66,12 +66,10 @@ example-record = refl
 -- So a run of the text, in any rack buffer and any record space of their lengths, puts the paper's record at the front of the space,
 -- keeps the bytes past it, and answers 0 and the record's length.
 pub example-ran : (rack space : List ℕ) → sized rack ≡ true → spaceLength ≤ length space
-    → Ran base rack exampleText space (record { number = 0; line = 0; length = length exampleRecord })
-    (write (after base (empty 4) (example .changes))) (over 0 exampleRecord space)
+    → Ran base rack exampleText space (recorded exampleRecord) (write (after base (empty 4) (example .changes))) (over 0 exampleRecord space)
 unfolding example
 example-ran rack space p q =
-    subst (λ (x : List ℕ). Ran base rack exampleText space (record { number = 0; line = 0; length = length x })
-    (write (after base (empty 4) (example .changes))) (over 0 x space))
+    subst (λ (x : List ℕ). Ran base rack exampleText space (recorded x) (write (after base (empty 4) (example .changes))) (over 0 x space))
     example-record (ran {t = example} p text-short q example-holds four-good)
   where
     text-short : length exampleText ≤ longest
@@ -80,10 +78,16 @@ example-ran rack space p q =
     four-good : sizeGood 4 ≡ true
     four-good = unfold sizeGood in refl
 
--- P12: "empty text: 4, line 1"
-pub empty-text : FirstBad (linesOf []) 1
-unfolding linesOf FirstBad
-empty-text = refl
+-- P12, as W-201 changes it: the empty text is taken, in any rack buffer and any record space of their lengths. The rack keeps its bytes, and sixteen
+-- bytes of the space are written.
+pub empty-text : (rack space : List ℕ) → sized rack ≡ true → spaceLength ≤ length space
+    → Ran base rack [] space (record { number = 0; line = 0; length = 16 }) rack (over 0 (bytes "(end (pairs 0))\n") space)
+empty-text rack space p q = blank p refl q
+
+-- a text of one line feed has a line, which doesn't fit
+pub feed-bad : FirstBad (linesOf (bytes "\n")) 1
+unfolding linesOf FirstBad rackLine
+feed-bad = λ (n, h, e). omega (arith, ap (λ (l : List ℕ). getD l 0 0) e)
 
 -- bytes after the last line feed are a line
 pub cut : linesOf (bytes "ab\n\ncd") ≡ bytes "ab\n" ∷ bytes "\n" ∷ bytes "cd" ∷ []

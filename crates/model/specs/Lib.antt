@@ -1,4 +1,5 @@
--- The definitions that a reader must believe: document 01, part by part, in the order in which they lean on each other.
+-- The definitions that a reader must believe: document 01, and the requests of document 02 that have landed, part by part, in the order in which
+-- they lean on each other.
 pub mod Lists
 pub mod Counting
 pub mod State

@@ -1,4 +1,4 @@
--- Document 01, "Trace and record": the record of a trace, to the byte. Assumes nothing.
+-- Document 01, "Trace and record": the record of a trace, to the byte; and document 02, W-201: that of a blank paper. Assumes nothing.
 use mathlib.Core.Bool.{true, false}
 use mathlib.Core.List.{List, [], _∷_, _++_}
 use Prim.Native.Nat.{ℕ, _-_}
@@ -42,3 +42,7 @@ changesText R s (c ∷ cs) = let d = change R s c in answerLine (d .answer) ++ c
 -- "The record repeats line 1, has one line for each change, then the pairs by rising lower board, then the end line"
 unfoldable pub recordText : Rules → Trace → List ℕ
 recordText R t = rackLine (t .n) ++ changesText R (empty (t .n)) (t .changes)
+
+-- W-201: "A trace text of no bytes now means that no rack was set: the record is the one line `(end (pairs 0))`"
+abbrev pub blankRecord : List ℕ
+blankRecord = bytes "(end (pairs 0))\n"

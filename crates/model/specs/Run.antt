@@ -1,7 +1,8 @@
--- Document 01, "Trace and record" and "Turned back": running a trace text to a record. "a trace 1 to 5". Assumes nothing.
+-- Document 01, "Trace and record" and "Turned back", and document 02, W-201: running a trace text to a record. "a trace 1 to 5".
+-- Assumes nothing.
 use mathlib.Core.Path.{_≡_}
 use mathlib.Core.Bool.{true, false}
-use mathlib.Core.List.{List, _++_}
+use mathlib.Core.List.{List, [], _++_}
 use Prim.Native.Nat.{ℕ, _≤_, _<_}
 use lib.Dec.{eqb}
 use lib.ListN.{length, take}
@@ -11,7 +12,7 @@ use Rattle.model.specs.Sound.{sizeGood}
 use Rattle.model.specs.Calls.{sized}
 use Rattle.model.specs.Text.{bytes, decimal, over}
 use Rattle.model.specs.Trace.{Trace, Holds, linesOf, FirstBad}
-use Rattle.model.specs.Record.{after, recordText}
+use Rattle.model.specs.Record.{after, recordText, blankRecord}
 
 -- the answer: the number, the line that doesn't fit (for number 4), and the record's length
 pub record RunAnswer : Type 0 where
@@ -23,6 +24,10 @@ pub record RunAnswer : Type 0 where
 abbrev pub turnedBack : ℕ → ℕ → RunAnswer
 turnedBack k line = record { number = k; line = line; length = 0 }
 
+-- "The answer is 0 and the record's length."
+abbrev pub recorded : List ℕ → RunAnswer
+recorded text = record { number = 0; line = 0; length = length text }
+
 -- "2. The trace text is over 16,384 bytes." "3. The record space is under 65,536 bytes."
 abbrev pub longest : ℕ
 longest = 16384
@@ -32,18 +37,20 @@ spaceLength = 65536
 
 -- What a run answers, and the bytes of the rack and of the record space after it: "first fit first", "nothing lent is written".
 -- "The whole text is read before the rack is made, in the lent rack buffer, which holds the last state at the end."
--- "Bytes past the record keep their values. The answer is 0 and the record's length."
+-- "Bytes past the record keep their values."
 pub data Ran (R : Rules) (rack text space : List ℕ) : RunAnswer → List ℕ → List ℕ → Type 0 where
   rack-length : sized rack ≡ false → Ran R rack text space (turnedBack 1 0) rack space
   text-long : sized rack ≡ true → longest < length text → Ran R rack text space (turnedBack 2 0) rack space
   space-short : sized rack ≡ true → length text ≤ longest → length space < spaceLength → Ran R rack text space (turnedBack 3 0) rack space
+  -- W-201: "A trace text of no bytes now means that no rack was set: the record is the one line `(end (pairs 0))` and the rack buffer keeps its
+  -- bytes. It is taken unless 1 or 3 fits": 2 can't fit it.
+  blank : sized rack ≡ true → text ≡ [] → spaceLength ≤ length space → Ran R rack text space (recorded blankRecord) rack (over 0 blankRecord space)
   bad-line : {line : ℕ} → sized rack ≡ true → length text ≤ longest → spaceLength ≤ length space → FirstBad (linesOf text) line
       → Ran R rack text space (turnedBack 4 line) rack space
   bad-size : {t : Trace} → sized rack ≡ true → length text ≤ longest → spaceLength ≤ length space → Holds text t → sizeGood (t .n) ≡ false
       → Ran R rack text space (turnedBack 5 0) rack space
   ran : {t : Trace} → sized rack ≡ true → length text ≤ longest → spaceLength ≤ length space → Holds text t → sizeGood (t .n) ≡ true
-      → Ran R rack text space (record { number = 0; line = 0; length = length (recordText R t) })
-      (write (after R (empty (t .n)) (t .changes))) (over 0 (recordText R t) space)
+      → Ran R rack text space (recorded (recordText R t)) (write (after R (empty (t .n)) (t .changes))) (over 0 (recordText R t) space)
 
 -- `(bad K L)`, ended by a line feed
 unfoldable pub badLine : ℕ → ℕ → List ℕ

@@ -3,7 +3,7 @@
 ghost use Prim.Native.Nat.{_≤_};
 ghost use lib.ListN.{length};
 ghost use Rattle.model.specs.Trace.{rackLine};
-ghost use Rattle.model.specs.Record.{answerLine};
+ghost use Rattle.model.specs.Record.{answerLine, blankRecord};
 ghost use Rattle.model.specs.Run.{badLine};
 ghost use Rattle.text.specs.Writing.{Put};
 ghost use Rattle.record.specs.Line.{rackRoom, answerRoom, pairRoom, endRoom, badRoom, oneText, answered, pairText, endText};
@@ -86,6 +86,14 @@ pub fn put_end(out: &mut [u8], pairs: u32) -> usize
     ensures { λ r. ⌜ Put (endText pairs) (now (out .entry)) (now (out .exit)) r ⌝ }
 {
     put_one(out, b"(end (pairs ", pairs, b"))\n")
+}
+
+// Writes the record of a blank paper, which is this line alone.
+pub fn put_blank(out: &mut [u8]) -> usize
+    requires { ⌜ length blankRecord ≤ length (now out) ⌝ }
+    ensures { λ r. ⌜ Put blankRecord (now (out .entry)) (now (out .exit)) r ⌝ }
+{
+    text::put_literal(out, b"(end (pairs 0))\n")
 }
 
 // Writes the line of a run that was turned back.

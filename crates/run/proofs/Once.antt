@@ -1,9 +1,9 @@
 -- A run has one outcome: whatever the bytes lent, one answer and one list of bytes for rack and record space. And what is printed of it.
 -- Assumes nothing.
 use mathlib.Core.Path.{_≡_, refl, sym, ap, _∙_, subst}
-use mathlib.Core.Logic.{_≢_, _⊎_, inl, inr}
+use mathlib.Core.Logic.{_≢_}
 use mathlib.Core.Bool.{Bool, true, false}
-use mathlib.Core.List.{List, _++_}
+use mathlib.Core.List.{List, [], _++_}
 use Prim.Native.Nat.{ℕ, suc, _+_, _≤_}
 use native.Mathlib.Omega.{arith}
 use lib.Dec.{ltb}
@@ -16,13 +16,14 @@ use Rattle.model.specs.Sound.{sizeGood}
 use Rattle.model.specs.Calls.{sized}
 use Rattle.model.specs.Text.{over}
 use Rattle.model.specs.Trace.{Trace, Holds, linesOf, FirstBad}
-use Rattle.model.specs.Record.{after, recordText}
-use Rattle.model.specs.Run.{Ran, rack-length, text-long, space-short, bad-line, bad-size, ran, RunAnswer, turnedBack, longest, spaceLength, badLine, output}
+use Rattle.model.specs.Record.{after, recordText, blankRecord}
+use Rattle.model.specs.Run.{Ran, rack-length, text-long, space-short, blank, bad-line, bad-size, ran}
+use Rattle.model.specs.Run.{RunAnswer, turnedBack, recorded, longest, spaceLength, badLine, output}
 use Rattle.model.proofs.Tests.{eqb-yes, eqb-no, leb-yes, leb-no}
 use Rattle.text.specs.Writing.{Put}
 use Rattle.text.proofs.Over.{put-as}
-use Rattle.trace.proofs.Whole.{trace-same, trace-fits, first-bad-same, first-bad-within}
-use Rattle.trace.proofs.Decide.{fits-or-bad}
+use Rattle.trace.proofs.Whole.{trace-same, trace-fits, first-bad-same, first-bad-within, blank-no-trace, blank-no-bad}
+use Rattle.trace.proofs.Decide.{Kind, blank-text, trace-text, bad-text, kind-of}
 use Rattle.trace.proofs.RecordFits.{record-fits-base}
 use Rattle.run.specs.Recording.{Shown}
 use Rattle.run.proofs.Whole.{size-range}
@@ -37,26 +38,20 @@ module _ (R : Rules) (rack text space : List ℕ) where
   back : ℕ → ℕ → Outcome
   back k line = record { answer = turnedBack k line; rack = rack; space = space }
 
-  recorded : Trace → Outcome
-  recorded t = record {
-    answer = record { number = 0; line = 0; length = length (recordText R t) };
-    rack = write (after R (empty (t .n)) (t .changes));
-    space = over 0 (recordText R t) space;
-  }
+  -- with the record p, and the rack `last` left
+  done : List ℕ → List ℕ → Outcome
+  done p last = record { answer = recorded p; rack = last; space = over 0 p space }
 
   -- by the board number
   abbrev sizes : Trace → Bool → Outcome
-  sizes t true = recorded t
+  sizes t true = done (recordText R t) (write (after R (empty (t .n)) (t .changes)))
   sizes t false = back 5 0
 
-  -- the text holds a trace, or it has a first line that doesn't fit
-  abbrev Decided : Type 0
-  Decided = ((t : Trace) × Holds text t) ⊎ ((k : ℕ) × FirstBad (linesOf text) k)
-
-  -- by the text: the record of its trace, or 5, or 4 with its first line that doesn't fit
-  read : Decided → Outcome
-  read (inl (t, h)) = sizes t (sizeGood (t .n))
-  read (inr (k, h)) = back 4 k
+  -- by the text: the record of a blank paper, that of its trace, or 5, or 4 with its first line that doesn't fit
+  read : Kind text → Outcome
+  read (blank-text e) = done blankRecord rack
+  read (trace-text t h) = sizes t (sizeGood (t .n))
+  read (bad-text k b) = back 4 k
 
   -- by the three lengths
   chosen : Bool → Bool → Bool → Outcome → Outcome
@@ -67,39 +62,48 @@ module _ (R : Rules) (rack text space : List ℕ) where
 
   -- first fit first
   abbrev outcome : Outcome
-  outcome = chosen (sized rack) (ltb longest (length text)) (ltb (length space) spaceLength) (read (fits-or-bad text))
+  outcome = chosen (sized rack) (ltb longest (length text)) (ltb (length space) spaceLength) (read (kind-of text))
 
-  read-holds : (d : Decided) (t : Trace) → Holds text t → read d ≡ sizes t (sizeGood (t .n))
+  read-blank : (d : Kind text) → text ≡ [] → read d ≡ done blankRecord rack
   unfolding read
-  read-holds (inl (u, g)) t h = ap (λ (x : Trace). sizes x (sizeGood (x .n))) (trace-same text u t g h)
-  read-holds (inr (k, b)) t h = absurd (trace-fits text t k h b)
+  read-blank (blank-text _) e = refl
+  read-blank (trace-text t h) e = absurd (blank-no-trace text t e h)
+  read-blank (bad-text k b) e = absurd (blank-no-bad text k e b)
 
-  read-bad : (d : Decided) (k : ℕ) → FirstBad (linesOf text) k → read d ≡ back 4 k
+  read-holds : (d : Kind text) (t : Trace) → Holds text t → read d ≡ sizes t (sizeGood (t .n))
   unfolding read
-  read-bad (inl (t, h)) k b = absurd (trace-fits text t k h b)
-  read-bad (inr (j, a)) k b = ap (back 4) (first-bad-same (linesOf text) j k a b)
+  read-holds (blank-text e) t h = absurd (blank-no-trace text t e h)
+  read-holds (trace-text u g) t h = ap (λ (x : Trace). sizes x (sizeGood (x .n))) (trace-same text u t g h)
+  read-holds (bad-text k b) t h = absurd (trace-fits text t k h b)
+
+  read-bad : (d : Kind text) (k : ℕ) → FirstBad (linesOf text) k → read d ≡ back 4 k
+  unfolding read
+  read-bad (blank-text e) k b = absurd (blank-no-bad text k e b)
+  read-bad (trace-text t h) k b = absurd (trace-fits text t k h b)
+  read-bad (bad-text j a) k b = ap (back 4) (first-bad-same (linesOf text) j k a b)
 
   -- the lengths are those that a run takes
-  taken : sized rack ≡ true → length text ≤ longest → spaceLength ≤ length space → outcome ≡ read (fits-or-bad text)
+  taken : sized rack ≡ true → length text ≤ longest → spaceLength ≤ length space → outcome ≡ read (kind-of text)
   unfolding chosen
   taken z s w =
       let p : ltb longest (length text) ≡ false = leb-no (suc longest) (length text) (omega (arith, s)) in
       let q : ltb (length space) spaceLength ≡ false = leb-no (suc (length space)) spaceLength (omega (arith, w)) in
-      λ i. chosen (z i) (p i) (q i) (read (fits-or-bad text))
+      λ i. chosen (z i) (p i) (q i) (read (kind-of text))
 
   is : {a : RunAnswer} {x y : List ℕ} → Ran R rack text space a x y → outcome ≡ record { answer = a; rack = x; space = y }
-  unfolding chosen back recorded
-  is (rack-length z) = λ i. chosen (z i) (ltb longest (length text)) (ltb (length space) spaceLength) (read (fits-or-bad text))
+  unfolding chosen back done
+  is (rack-length z) = λ i. chosen (z i) (ltb longest (length text)) (ltb (length space) spaceLength) (read (kind-of text))
   is (text-long z s) =
       let p : ltb longest (length text) ≡ true = leb-yes (suc longest) (length text) (omega (arith, s)) in
-      λ i. chosen (z i) (p i) (ltb (length space) spaceLength) (read (fits-or-bad text))
+      λ i. chosen (z i) (p i) (ltb (length space) spaceLength) (read (kind-of text))
   is (space-short z s w) =
       let p : ltb longest (length text) ≡ false = leb-no (suc longest) (length text) (omega (arith, s)) in
       let q : ltb (length space) spaceLength ≡ true = leb-yes (suc (length space)) spaceLength (omega (arith, w)) in
-      λ i. chosen (z i) (p i) (q i) (read (fits-or-bad text))
-  is (bad-line {line} z s w b) = taken z s w ∙ read-bad (fits-or-bad text) line b
-  is (bad-size {t} z s w h e) = taken z s w ∙ read-holds (fits-or-bad text) t h ∙ ap (sizes t) e
-  is (ran {t} z s w h e) = taken z s w ∙ read-holds (fits-or-bad text) t h ∙ ap (sizes t) e
+      λ i. chosen (z i) (p i) (q i) (read (kind-of text))
+  is (blank z e w) = taken z (omega (arith, ap length e)) w ∙ read-blank (kind-of text) e
+  is (bad-line {line} z s w b) = taken z s w ∙ read-bad (kind-of text) line b
+  is (bad-size {t} z s w h e) = taken z s w ∙ read-holds (kind-of text) t h ∙ ap (sizes t) e
+  is (ran {t} z s w h e) = taken z s w ∙ read-holds (kind-of text) t h ∙ ap (sizes t) e
 
   -- two runs of the same bytes answer the same and leave the same
   pub ran-once : {a b : RunAnswer} {x y u v : List ℕ} → Ran R rack text space a x y → Ran R rack text space b u v
@@ -109,10 +113,11 @@ module _ (R : Rules) (rack text space : List ℕ) where
       (ap (λ (o : Outcome). o .answer) e, ap (λ (o : Outcome). o .rack) e, ap (λ (o : Outcome). o .space) e)
 
   -- the line of an answer fits 32 bits
-  pub line-few : {a : RunAnswer} {x y : List ℕ} → Ran R rack text space a x y → a .line ≤ longest + 1
+  pub line-few : {a : RunAnswer} {x y : List ℕ} → Ran R rack text space a x y → a .line ≤ longest
   line-few (rack-length z) = omega arith
   line-few (text-long z s) = omega arith
   line-few (space-short z s w) = omega arith
+  line-few (blank z e w) = omega arith
   line-few (bad-line {line} z s w b) = omega (arith, s, first-bad-within text line b)
   line-few (bad-size z s w h e) = omega arith
   line-few (ran z s w h e) = omega arith
@@ -122,6 +127,7 @@ length-few : {rack text space : List ℕ} {a : RunAnswer} {x y : List ℕ} → R
 length-few (rack-length z) = omega arith
 length-few (text-long z s) = omega arith
 length-few (space-short z s w) = omega arith
+length-few (blank z e w) = omega arith
 length-few (bad-line z s w b) = omega arith
 length-few (bad-size z s w h e) = omega arith
 length-few (ran {t} z s w h e) =

@@ -1,5 +1,5 @@
 -- Demand 3 of a run: whatever text a run takes, its record and the rack that it leaves are as the link book (the edge ledger) says, since
--- `run::run` meets its contract. The statement is `RunDemand` (specs/RunDemand.antt). Assumes nothing.
+-- `run::run` meets its contract. The statement is `RunDemanded`, with `RunDemand` (specs/RunDemand.antt). Assumes nothing.
 use mathlib.Core.Path.{_≡_, refl, sym, ap, _∙_, subst}
 use mathlib.Core.Logic.{_≢_, inl, inr}
 use mathlib.Core.Bool.{true, false}
@@ -18,9 +18,9 @@ use Rattle.model.specs.Text.{bytes, decimal, over}
 use Rattle.model.specs.Change.{Change, Changed, change}
 use Rattle.model.specs.Calls.{ChangedBytes, changeBytes}
 use Rattle.model.specs.Ledger.{Ledger, ledgerNumber, entered, enteredAll}
-use Rattle.model.specs.Trace.{Trace, Holds, rackLine}
-use Rattle.model.specs.Record.{answerLine, pairLine, pairLines, endLine, after, changesText, recordText}
-use Rattle.model.specs.Run.{Ran, rack-length, text-long, space-short, bad-line, bad-size, ran, RunAnswer as AnswerOf}
+use Rattle.model.specs.Trace.{Trace, rackLine}
+use Rattle.model.specs.Record.{answerLine, pairLine, pairLines, endLine, after, changesText, recordText, blankRecord}
+use Rattle.model.specs.Run.{Ran, rack-length, text-long, space-short, blank, bad-line, bad-size, ran, RunAnswer as AnswerOf}
 use Rattle.model.proofs.Tests.{eq?, le?, true-T, and-intro, and-left, and-right, eqb-yes}
 use Rattle.model.proofs.Chunks.{each-ext, each-none, each-only}
 use Rattle.model.proofs.Lists.{listed-texts}
@@ -37,7 +37,7 @@ use Rattle.changes.specs.Sounded.{Sounded}
 use Rattle.changes.proofs.Answered.{sounded-of}
 use Rattle.run.specs.Recording.{pairPart, told}
 use Rattle.run.specs.declared.RunAnswer.{RunAnswer}
-use Rattle.run.specs.RunDemand.{freshLedger, answerBy, changesBy, pairsBy, endingBy, RunDemand}
+use Rattle.run.specs.RunDemand.{freshLedger, answerBy, changesBy, pairsBy, endingBy, RunDemand, RunDemanded, of-blank, of-trace}
 use Rattle.run.proofs.Pairs.{shown, left-out, part-free, part-upper, part-line}
 use Rattle.run.proofs.Whole.{empty-good}
 
@@ -164,17 +164,18 @@ unfolding over
 front p space = take-at p (drop (0 + length p) space) (length p) refl
 
 of-ran : {rack text space last new : List ℕ} {a : AnswerOf} → Ran base rack text space a last new → a .number ≡ 0
-    → (t : Trace) × Holds text t × RunDemand t last (take (a .length) new)
+    → RunDemanded rack text last (take (a .length) new)
 of-ran (rack-length z) e = absurd (omega arith)
 of-ran (text-long z s) e = absurd (omega arith)
 of-ran (space-short z s w) e = absurd (omega arith)
+of-ran {space = space} (blank z t w) e = of-blank t refl (front blankRecord space)
 of-ran (bad-line z s w b) e = absurd (omega arith)
 of-ran (bad-size z s w h g) e = absurd (omega arith)
 of-ran {space = space} (ran {t} z s w h g) e =
-    (t, h, subst (RunDemand t (write (after base (empty (t .n)) (t .changes)))) (sym (front (recordText base t) space)) (run-demand t g))
+    of-trace t h (subst (RunDemand t (write (after base (empty (t .n)) (t .changes)))) (sym (front (recordText base t) space)) (run-demand t g))
 
--- Whatever bytes `run::run` was lent: if it answers 0, the text holds a trace, and the record that it tells of, and the rack, are as demand 3
--- says of that trace.
+-- Whatever bytes `run::run` was lent: if it answers 0, the text is blank, and the rack stays and the record says no pair; or the text holds a
+-- trace, and the record that it tells of, and the rack, are as demand 3 says of that trace.
 pub demand-three-of-run : {rack text space last new : List ℕ} (r : RunAnswer) → Ran base rack text space (told r) last new → r .number ≡ 0
-    → (t : Trace) × Holds text t × RunDemand t last (take (r .length) new)
+    → RunDemanded rack text last (take (r .length) new)
 demand-three-of-run r h e = of-ran h e

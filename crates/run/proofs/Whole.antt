@@ -1,8 +1,8 @@
--- A run as a whole: from a text that fits to its record, by the parts; and the making of its rack. Assumes nothing.
-use mathlib.Core.Path.{_≡_, refl, sym, ap, _∙_, subst, subst₃}
+-- A run as a whole: from a text that fits, or a blank one, to its record, by the parts; and the making of its rack. Assumes nothing.
+use mathlib.Core.Path.{_≡_, refl, sym, ap, _∙_, subst, subst₂, subst₃}
 use mathlib.Core.Logic.{_≢_}
 use mathlib.Core.Bool.{Bool, true, false}
-use mathlib.Core.List.{List, _++_}
+use mathlib.Core.List.{List, [], _++_}
 use Prim.Native.Nat.{ℕ, _+_, _≤_}
 use native.Mathlib.Omega.{arith}
 use lib.Dec.{leb, leb→le}
@@ -14,8 +14,8 @@ use Rattle.model.specs.Calls.{sized, makeNumber, made}
 use Rattle.model.specs.Valid.{Valid}
 use Rattle.model.specs.Change.{Change}
 use Rattle.model.specs.Trace.{Holds, rackLine}
-use Rattle.model.specs.Record.{after, changesText, recordText}
-use Rattle.model.specs.Run.{Ran, ran, bad-size, RunAnswer, turnedBack, longest, spaceLength}
+use Rattle.model.specs.Record.{after, changesText, recordText, blankRecord}
+use Rattle.model.specs.Run.{Ran, blank, ran, bad-size, RunAnswer, turnedBack, longest, spaceLength}
 use Rattle.model.proofs.Tests.{true-T, and-left, and-right}
 use Rattle.theory.proofs.Matching.{base-pos, empty-valid}
 use Rattle.text.specs.Writing.{Put}
@@ -121,15 +121,22 @@ pub took-none : (heads words : List ℕ) (c n : ℕ) {rack space last new : List
     → a .number ≡ 5 → a .line ≡ 0 → a .length ≡ 0 → last ≡ rack → new ≡ space → Took (sizeGood n) heads words c n rack space a last new
 took-none heads words c n {a = a} e p q r f g = rw e (answer-of a p q r, f, g)
 
-pub took-record : (rack : List ℕ) {heads words space last new : List ℕ} {c n : ℕ} {a : RunAnswer} → sizeGood n ≡ true
-    → a .number ≡ 0 → a .line ≡ 0 → Written heads words c n last space new (a .length) → Took (sizeGood n) heads words c n rack space a last new
-took-record rack e p q w = rw e (p, q, w)
+pub took-record : (rack : List ℕ) {heads words space last new : List ℕ} {c n k : ℕ} {a : RunAnswer} → sizeGood n ≡ true
+    → a .number ≡ 0 → a .line ≡ 0 → a .length ≡ k → Written heads words c n last space new k → Took (sizeGood n) heads words c n rack space a last new
+took-record rack {heads} {words} {space} {last} {new} {c} {n} e p q r w = rw e (p, q, subst (Written heads words c n last space new) (sym r) w)
 
 -- the lengths of what is lent are those that a run takes
 pub record Lent (rack text space : List ℕ) : Type 0 where
   pub whole : sized rack ≡ true
   pub short : length text ≤ longest
   pub wide : spaceLength ≤ length space
+
+-- a blank paper, whose record was printed
+pub took-blank : {rack text space new : List ℕ} {k : ℕ} {a : RunAnswer} → Lent rack text space → text ≡ [] → Put blankRecord space new k
+    → a .number ≡ 0 → a .line ≡ 0 → a .length ≡ k → Ran base rack text space a rack new
+took-blank {rack} {text} {space} {a = a} g e w p q r =
+    subst₂ (λ (x : RunAnswer) (y : List ℕ). Ran base rack text space x rack y) (sym (answer-of a p q (r ∙ w .count))) (sym (w .wrote))
+    (blank (g .whole) e (g .wide))
 
 -- a text that fits the grammar, and the changes that are kept of it
 module _ {rack text space : List ℕ} (heads words : List ℕ) {c n : ℕ} {x : Checked} (g : Lent rack text space) (e : x ≡ Fits n c)

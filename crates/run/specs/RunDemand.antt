@@ -1,5 +1,6 @@
 -- Demand 3 of a run: what the record of a text that is taken says, line by line, and what the rack then holds, by the link book (the edge
--- ledger) that is kept from the text's changes alone. The theorem is `demand-three-of-run` (proofs/RunDemand.antt). Assumes nothing.
+-- ledger) that is kept from the text's changes alone; and of a blank paper, that there is neither. The theorem is `demand-three-of-run`
+-- (proofs/RunDemand.antt). Assumes nothing.
 use mathlib.Core.Path.{_≡_}
 use mathlib.Core.Bool.{true, false}
 use mathlib.Core.List.{List, [], _∷_, _++_}
@@ -10,8 +11,8 @@ use Rattle.model.specs.Bytes.{rankAt, write}
 use Rattle.model.specs.Change.{Change, Answer}
 use Rattle.model.specs.Calls.{ChangedBytes, changeBytes}
 use Rattle.model.specs.Ledger.{Ledger, ledgerNumber, entered, enteredAll}
-use Rattle.model.specs.Trace.{Trace, rackLine}
-use Rattle.model.specs.Record.{answerLine}
+use Rattle.model.specs.Trace.{Trace, Holds, rackLine}
+use Rattle.model.specs.Record.{answerLine, blankRecord}
 use Rattle.theory.specs.Demand.{lastRack, isPair, pairsOf, Facts, Demand}
 use Rattle.record.specs.Line.{pairText, endText}
 
@@ -54,3 +55,9 @@ pub record RunDemand (t : Trace) (last text : List ℕ) : Type 0 where
   pub says : text
       ≡ rackLine (t .n)
       ++ (changesBy (freshLedger (t .n)) (write (empty (t .n))) (t .changes) ++ endingBy (enteredAll (freshLedger (t .n)) (t .changes)) last)
+
+-- What is so of every run that answers 0, lent the rack `rack`: of a blank paper, that "no rack was set", no change made and no pair held, and
+-- "the rack buffer keeps its bytes"; of any other text, what demand 3 says of the trace that it holds.
+pub data RunDemanded (rack text last printed : List ℕ) : Type 0 where
+  of-blank : text ≡ [] → last ≡ rack → printed ≡ blankRecord → RunDemanded rack text last printed
+  of-trace : (t : Trace) → Holds text t → RunDemand t last printed → RunDemanded rack text last printed

@@ -141,6 +141,17 @@ fn put_record(
     at + m
 }
 
+// The answer of a run with a record.
+fn recorded(length: usize) -> RunAnswer
+    ensures { λ r. ⌜ (r .number ≡ 0) × (r .line ≡ 0) × (r .length ≡ length) ⌝ }
+{
+    RunAnswer {
+        number: 0,
+        line: 0,
+        length,
+    }
+}
+
 // The answer of a run that was turned back.
 fn turned_back(number: u32, line: usize) -> RunAnswer
     ensures { λ r. ⌜ (r .number ≡ number) × (r .line ≡ line) × (r .length ≡ 0) ⌝ }
@@ -152,7 +163,7 @@ fn turned_back(number: u32, line: usize) -> RunAnswer
     }
 }
 
-// "a trace 1 to 5", first fit first: the lengths, then the grammar, then the board number.
+// "a trace 1 to 5", first fit first: the lengths, then the grammar, then the board number. A blank paper is recorded, and the rack left as it is.
 pub fn run(rack: &mut [u8], text: &[u8], space: &mut [u8]) -> RunAnswer
     ensures { λ r. ⌜ Ran base (now (rack .entry)) (now (text .entry)) (now (space .entry)) (told r) (now (rack .exit)) (now (space .exit)) ⌝ }
 {
@@ -168,6 +179,7 @@ pub fn run(rack: &mut [u8], text: &[u8], space: &mut [u8]) -> RunAnswer
     let mut heads = trace::heads_space();
     let mut words = trace::words_space();
     match trace::read(text, &mut heads, &mut words) {
+        Checked::Blank => recorded(record::put_blank(space)),
         Checked::Bad { line } => turned_back(4, line),
         Checked::Fits { n, changes } => taken(rack, n, &heads, &words, changes, space),
     }
@@ -189,12 +201,7 @@ fn taken(
     if engine::make(rack, n) != 0 {
         return turned_back(5, 0);
     }
-    let length = put_record(rack, n, heads, words, changes, space);
-    RunAnswer {
-        number: 0,
-        line: 0,
-        length,
-    }
+    recorded(put_record(rack, n, heads, words, changes, space))
 }
 
 // "prints the record, or `(bad K L)`": the text to print stands at the start of the space, and its length is the answer. It is no call for

@@ -1,4 +1,4 @@
--- Every text fits, or has a first line that doesn't: whether a line fits is decided by trying every value that a line may hold.
+-- Every text is blank, or fits, or has a first line that doesn't: whether a line fits is decided by trying every value that a line may hold.
 -- Assumes nothing.
 use Prim.Native.Nat.{ℕ, zero, suc, _≤_}
 use mathlib.Core.Path.{_≡_, refl, sym, ap, _∙_, subst}
@@ -134,16 +134,27 @@ changes? (l ∷ ls) = elim (change? l) [
   ]
 ]
 
--- "L the first line that doesn't fit": a text that doesn't fit has one (and one alone: `first-bad-same`)
-pub fits-or-bad : (text : List ℕ) → ((t : Trace) × Holds text t) ⊎ ((k : ℕ) × FirstBad (linesOf text) k)
-fits-or-bad text = go (linesOf text) (joined text)
+-- what a text may be: blank, of no bytes; a trace; or one with "the first line that doesn't fit"
+pub data Kind (text : List ℕ) : Type 0 where
+  blank-text : text ≡ [] → Kind text
+  trace-text : (t : Trace) → Holds text t → Kind text
+  bad-text : (k : ℕ) → FirstBad (linesOf text) k → Kind text
+
+-- each text is one of these (and one alone: `blank-no-trace`, `blank-no-bad`, `trace-fits`)
+pub kind-of : (text : List ℕ) → Kind text
+kind-of text = go (linesOf text) refl (joined text)
   where
-    go : (ls : List (List ℕ)) → texts itself ls ≡ text → ((t : Trace) × Holds text t) ⊎ ((k : ℕ) × FirstBad ls k)
-    go [] e = unfold FirstBad in inr (1, refl)
-    go (l ∷ ls) e = unfold FirstBad texts traceText in elim (rack? l) [
-      | inr h ↦ inr (1, h)
+    bad : (ls : List (List ℕ)) → linesOf text ≡ ls → (k : ℕ) → FirstBad ls k → Kind text
+    bad ls is k b = bad-text k (subst (λ (x : List (List ℕ)). FirstBad x k) (sym is) b)
+
+    go : (ls : List (List ℕ)) → linesOf text ≡ ls → texts itself ls ≡ text → Kind text
+    go [] is e = unfold texts in blank-text (sym e)
+    go (l ∷ ls) is e = unfold FirstBad texts traceText in elim (rack? l) [
+      | inr h ↦ bad (l ∷ ls) is 1 h
       | inl g ↦ elim (changes? ls) [
-        | inr b ↦ inr (suc (suc (b .0)), (g, b .1))
-        | inl q ↦ inl (record { n = g .0; changes = q .0 }, record { n-fits = g .1; changes-fit = q .1; printed = sym e ∙ (λ i. g .2 i ++ q .2 i) })
+        | inr b ↦ bad (l ∷ ls) is (suc (suc (b .0))) (g, b .1)
+        | inl q ↦
+            let printed = sym e ∙ (λ i. g .2 i ++ q .2 i) in
+            trace-text (record { n = g .0; changes = q .0 }) (record { n-fits = g .1; changes-fit = q .1; printed = printed })
       ]
     ]

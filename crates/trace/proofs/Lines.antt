@@ -113,12 +113,12 @@ first-at (b ∷ t) =
 
 -- The first line that does not fit.
 
--- no rack line stands at the start: line 1 does not fit, or there is none
-pub bad-rack : (s : List ℕ) → ((n : ℕ) (rest : List ℕ) → n ≤ largest → s ≡ rackLine n ++ rest → ⊥) → FirstBad (linesOf s) 1
-bad-rack s absent = go (linesOf s) (first-at s)
+-- some text is there, and no rack line stands at its start: line 1 does not fit
+pub bad-rack : (s : List ℕ) → 0 < length s → ((n : ℕ) (rest : List ℕ) → n ≤ largest → s ≡ rackLine n ++ rest → ⊥) → FirstBad (linesOf s) 1
+bad-rack s some absent = go (linesOf s) (first-at s)
   where
     go : (ls : List (List ℕ)) → FirstAt s ls → FirstBad ls 1
-    go [] h = unfold FirstBad in refl
+    go [] h = absurd (omega (arith, ap length h))
     go (l ∷ ls) h = unfold FirstBad in (λ k. absent (k .0) (h .0) (k .1) (h .1 ∙ ap (λ (u : List ℕ). u ++ h .0) (k .2)))
 
 -- no change's line stands at the start of t

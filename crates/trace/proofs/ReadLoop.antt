@@ -1,8 +1,8 @@
--- The loop of `trace::read`, through which one reader goes, without the code's run.
+-- The loop of `trace::read_lines`, through which one reader goes, without the code's run.
 --     Stand            where the reader stands, what was got so far, and the two lists
 --     Inv              the lines read so far are line 1 and some changes, which are kept; or the first line that doesn't fit is known
 --     rack-holds       it holds after line 1.        line-holds       and after one line more
---     answers          where the loop is left, what was got is what `read` must answer
+--     answers          where the loop is left, what was got is what `read_lines` must answer
 --     at-within, can-read, can-keep    what a turn's test, `next_line` and `with_line` ask for
 --     left, line-less  what is left to read, and that a line makes it less
 -- Assumes nothing.
@@ -39,7 +39,7 @@ pub record Stand : Type 0 where
 
 -- what is asked of the three slices
 abbrev pub Asked : List ℕ → List ℕ → List ℕ → Type 0
-Asked text heads words = (length text ≤ longest) × (headsRoom ≤ length heads) × (wordsRoom ≤ length words)
+Asked text heads words = (0 < length text) × (length text ≤ longest) × (headsRoom ≤ length heads) × (wordsRoom ≤ length words)
 
 -- what is left to read: the rest of the text, or nothing once a line doesn't fit
 abbrev leftAt : ℕ → ℕ → ℕ → ℕ
@@ -78,9 +78,9 @@ module _ (text heads₀ words₀ : List ℕ) where
   abbrev begun : ℕ → Progress → Stand
   begun at got = record { at = at; got = got; heads = heads₀; words = words₀ }
 
-  by-rack : (r : RackRead) → RackAt text 0 r → Inv (begun (pastRack 0 r) (withRack r))
+  by-rack : (r : RackRead) → 0 < length text → RackAt text 0 r → Inv (begun (pastRack 0 r) (withRack r))
   unfolding texts
-  by-rack (Rack n next) f = record {
+  by-rack (Rack n next) some f = record {
     heads-long = refl;
     words-long = refl;
     so-far = record {
@@ -95,10 +95,10 @@ module _ (text heads₀ words₀ : List ℕ) where
       kept = kept-none heads₀ words₀;
     };
   }
-  by-rack NoRack f = record { heads-long = refl; words-long = refl; so-far = bad-rack text f }
+  by-rack NoRack some f = record { heads-long = refl; words-long = refl; so-far = bad-rack text some f }
 
-  pub rack-holds : (r : RackRead) (got : Progress) → RackAt text 0 r → got ≡ withRack r → Inv (begun (pastRack 0 r) got)
-  rack-holds r got f e = subst (λ (g : Progress). Inv (begun (pastRack 0 r) g)) (sym e) (by-rack r f)
+  pub rack-holds : (r : RackRead) (got : Progress) → 0 < length text → RackAt text 0 r → got ≡ withRack r → Inv (begun (pastRack 0 r) got)
+  rack-holds r got some f e = subst (λ (g : Progress). Inv (begun (pastRack 0 r) g)) (sym e) (by-rack r some f)
 
   -- where the loop is left
   by-bad : (s : Stand) (line : ℕ) → Sofar line s → (line ≡ 0 → length text ≤ s .at) → Checks text (s .heads) (s .words) (answerAt line (s .got))

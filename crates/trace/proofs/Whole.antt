@@ -1,5 +1,5 @@
 -- Laws of a whole trace: how its text grows by a line, that a text holds one trace alone, and that a text that fits has no line that
--- doesn't. Assumes nothing.
+-- doesn't, and a blank one neither. Assumes nothing.
 use Prim.Native.Nat.{ℕ, zero, suc, _+_, _≤_, _<_}
 use mathlib.Core.Path.{_≡_, refl, sym, ap, _∙_, subst}
 use mathlib.Core.Logic.{inl, inr}
@@ -90,7 +90,7 @@ bad-change-same (l ∷ ls) (suc j) (suc k) a b = ap suc (bad-change-same ls j k 
 -- and the first bad line is one line alone
 pub first-bad-same : (ls : List (List ℕ)) (j k : ℕ) → FirstBad ls j → FirstBad ls k → j ≡ k
 unfolding FirstBad
-first-bad-same [] j k a b = a ∙ sym b
+first-bad-same [] j k a b = absurd a
 first-bad-same (l ∷ ls) zero k a b = absurd a
 first-bad-same (l ∷ ls) (suc zero) zero a b = absurd b
 first-bad-same (l ∷ ls) (suc zero) (suc zero) a b = refl
@@ -99,7 +99,7 @@ first-bad-same (l ∷ ls) (suc (suc j)) zero a b = absurd b
 first-bad-same (l ∷ ls) (suc (suc j)) (suc zero) a b = absurd (b (a .0))
 first-bad-same (l ∷ ls) (suc (suc j)) (suc (suc k)) a b = ap (λ (m : ℕ). suc (suc m)) (bad-change-same ls j k (a .1) (b .1))
 
--- the first bad line is at most one past the bytes of the text, so that a number of 32 bits holds it where the text is no longer
+-- a text has at least as many bytes as its first bad line's number, so that 32 bits hold it where they hold the text's length
 lines-few : (t : List ℕ) → length (linesOf t) ≤ length t
 lines-few [] = unfold linesOf in omega arith
 lines-few (b ∷ t) = elim (eq? b 10) [
@@ -117,14 +117,23 @@ bad-change-within [] k h = absurd h
 bad-change-within (l ∷ ls) zero h = omega arith
 bad-change-within (l ∷ ls) (suc k) h = omega (arith, bad-change-within ls k (h .1))
 
-pub first-bad-within : (text : List ℕ) (k : ℕ) → FirstBad (linesOf text) k → (1 ≤ k) × (k ≤ length text + 1)
+pub first-bad-within : (text : List ℕ) (k : ℕ) → FirstBad (linesOf text) k → (1 ≤ k) × (k ≤ length text)
 first-bad-within text k h = go (linesOf text) k (lines-few text) h
   where
-    go : (ls : List (List ℕ)) (k : ℕ) → length ls ≤ length text → FirstBad ls k → (1 ≤ k) × (k ≤ length text + 1)
-    go [] k few h = unfold FirstBad in (omega (arith, h), omega (arith, h))
+    go : (ls : List (List ℕ)) (k : ℕ) → length ls ≤ length text → FirstBad ls k → (1 ≤ k) × (k ≤ length text)
+    go [] k few h = unfold FirstBad in absurd h
     go (l ∷ ls) zero few h = unfold FirstBad in absurd h
     go (l ∷ ls) (suc zero) few h = (omega arith, omega arith)
     go (l ∷ ls) (suc (suc k)) few h = unfold FirstBad in (omega arith, omega (arith, bad-change-within ls k (h .1)))
+
+-- A blank text holds no trace, and has no line that doesn't fit.
+
+pub blank-no-trace : (text : List ℕ) (t : Trace) → text ≡ [] → Holds text t → ⊥
+unfolding traceText rackLine
+blank-no-trace text t e h = omega (arith, ap length (sym e ∙ h .printed))
+
+pub blank-no-bad : (text : List ℕ) (k : ℕ) → text ≡ [] → FirstBad (linesOf text) k → ⊥
+blank-no-bad text k e b = omega (arith, ap length e, first-bad-within text k b)
 
 pub length-snoc : {A : Type 0} (xs : List A) (x : A) → length (xs ++ (x ∷ [])) ≡ suc (length xs)
 length-snoc xs x = length-append xs (x ∷ []) ∙ add-one (length xs)

@@ -14,7 +14,7 @@ const MOST_SPACE: usize = 131_072;
 pub fn all() -> Verdict {
     let stage = Stage::new(MOST_SPACE);
     as_stated(&stage)?;
-    println!("the worked example, P12 and P13: equal, and as stated");
+    println!("the worked example, P12, a line feed alone and P13: equal, and as stated");
     let mut tally = Tally::default();
     for family in families() {
         of_family(&stage, &family, &mut tally).map_err(|why| format!("{}: {why}", family.name))?;

@@ -11,6 +11,8 @@ use std::str::from_utf8;
 
 pub struct Tally {
     numbers: Seen<u32>,
+    /// Texts of no bytes that were run.
+    blank: u64,
     /// Runs that meet two numbers at once, the lower first.
     at_once: Seen<(u32, u32)>,
     /// Change lines of records: accepted, and refused by their number.
@@ -33,6 +35,7 @@ impl Default for Tally {
         let two = |lower| (lower + 1..6).map(move |higher| (lower, higher));
         Tally {
             numbers: Seen::of("number", 0..6),
+            blank: 0,
             at_once: Seen::of("at once", (1..6).flat_map(two)),
             done: 0,
             refused: Seen::of("number", 8..=12),
@@ -89,6 +92,10 @@ impl Tally {
     }
 
     fn note_text(&mut self, text: &[u8]) {
+        if text.is_empty() {
+            self.blank += 1;
+            return;
+        }
         let trace = grammar::read(text).expect("a text that was run");
         for step in trace.steps {
             self.words.note(step.words.len());
@@ -101,6 +108,7 @@ impl Tally {
     pub fn print(&self) {
         let [draws, falls, pairs] = self.most;
         println!("{} runs in all, by {}", self.numbers.sum(), self.numbers);
+        println!("{} of them of a text of no bytes, with 0", self.blank);
         println!("two numbers {}", self.at_once);
         println!("{} changes done; refused by {}", self.done, self.refused);
         println!("runs by {}; pairs at the end by {}", self.tops, self.pairs);
@@ -122,6 +130,9 @@ impl Tally {
         self.tops.all_came()?;
         self.words.all_came()?;
         self.digits.all_came()?;
+        if self.blank == 0 {
+            return Err("never met: a text of no bytes that was run".into());
+        }
         match self.most.iter().all(|&most| most >= 10) {
             true => Ok(()),
             false => Err("never met: draws, falls and pairs of two digits".into()),

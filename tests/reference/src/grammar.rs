@@ -22,7 +22,8 @@ pub struct Trace {
     pub steps: Vec<Step>,
 }
 
-/// Reads a whole text, or gives the number of the first line that doesn't fit.
+/// Reads a whole text of some bytes, or gives the number of the first line that
+/// doesn't fit.
 /// "Lines are numbered from 1; bytes after the last line feed are a line that
 /// doesn't fit."
 pub fn read(text: &[u8]) -> Result<Trace, usize> {

@@ -1,9 +1,10 @@
-//! The pairing rack of document 01, written plainly from the paper alone.
+//! The pairing rack of document 01, with the requests of document 02 that have
+//! landed, written plainly from the papers alone.
 //!
 //! Nothing here is made to be fast. Links stand in a square table, every count
 //! is worked out from its definition whenever it is asked for, and the bytes
 //! of a rack are written afresh after each change. Other programs for the same
-//! paper are set against this one.
+//! papers are set against this one.
 
 pub mod calls;
 pub mod checks;

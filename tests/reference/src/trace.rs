@@ -20,16 +20,24 @@ pub struct Outcome {
     pub length: usize,
 }
 
+/// The record of a text of no bytes, by which "no rack was set": "the one line
+/// `(end (pairs 0))`" (document 02, W-201).
+const BLANK: &str = "(end (pairs 0))\n";
+
 /// Runs a trace text. Turned back, it writes nothing lent; otherwise the rack
-/// buffer "holds the last state at the end" and the record stands at the start
-/// of the record space, whose further bytes "keep their values".
+/// buffer "holds the last state at the end", or "keeps its bytes" if no rack was
+/// set, and the record stands at the start of the record space, whose further
+/// bytes "keep their values".
 pub fn run(rack: &mut [u8], text: &[u8], record: &mut [u8]) -> Outcome {
-    let trace = match wanted(rack.len(), text, record.len()) {
-        Ok(trace) => trace,
+    let lines = match wanted(rack.len(), text, record.len()) {
+        Ok(Some(trace)) => {
+            let (last, lines) = play(&trace);
+            rack.copy_from_slice(&last.to_bytes());
+            lines
+        }
+        Ok(None) => BLANK.into(),
         Err(outcome) => return outcome,
     };
-    let (last, lines) = play(&trace);
-    rack.copy_from_slice(&last.to_bytes());
     record[..lines.len()].copy_from_slice(lines.as_bytes());
     Outcome {
         number: 0,
@@ -38,8 +46,9 @@ pub fn run(rack: &mut [u8], text: &[u8], record: &mut [u8]) -> Outcome {
     }
 }
 
-/// "a trace 1 to 5", first fit first; otherwise the trace that was read.
-fn wanted(rack: usize, text: &[u8], record: usize) -> Result<Trace, Outcome> {
+/// "a trace 1 to 5", first fit first; otherwise the trace that was read, or none
+/// for a text of no bytes, which "is taken unless 1 or 3 fits".
+fn wanted(rack: usize, text: &[u8], record: usize) -> Result<Option<Trace>, Outcome> {
     if rack != RACK_BYTES {
         return Err(turned_back(1, 0));
     }
@@ -49,11 +58,14 @@ fn wanted(rack: usize, text: &[u8], record: usize) -> Result<Trace, Outcome> {
     if record < RECORD_SPACE {
         return Err(turned_back(3, 0));
     }
+    if text.is_empty() {
+        return Ok(None);
+    }
     let trace = grammar::read(text).map_err(|line| turned_back(4, line))?;
     if !board_number_fits(trace.boards) {
         return Err(turned_back(5, 0));
     }
-    Ok(trace)
+    Ok(Some(trace))
 }
 
 fn turned_back(number: u32, line: usize) -> Outcome {

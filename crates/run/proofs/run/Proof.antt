@@ -6,7 +6,7 @@ use Rattle.model.specs.Calls.{sized}
 use Rattle.model.specs.Run.{rack-length, text-long, space-short, bad-line}
 use Rattle.engine.proofs.Numbers.{off, on}
 use Rattle.trace.specs.Check.{Checks}
-use Rattle.run.proofs.Whole.{ran-back, Lent, recordable, took}
+use Rattle.run.proofs.Whole.{ran-back, Lent, took-blank, recordable, took}
 use borrow.Author.Needs.{needs}
 use Rattle.run.proofs.run.Statement.{statement}
 use Rattle.run.proofs.run.Tie as tie
@@ -17,6 +17,9 @@ else-start c = c .before .before .before .before .before .before
 
 abbrev read-else : tie.After-read → tie.Else3
 read-else c = c .before .before .before .before .before
+
+abbrev blank-read : tie.After-enum-told → tie.After-read
+blank-read c = c .before .before .before .before
 
 abbrev bad-read : tie.After-line → tie.After-read
 bad-read c = c .before .before .before .before
@@ -95,6 +98,15 @@ read-requires c κs =
     let w = c .before .before in
     (lent (w .before .before) .short, omega (arith, w .before .heads-space .ensures), omega (arith, w .words-space .ensures))
 
+enum-told : tie.Need-enum-told
+enum-told c = search needs
+
+put-blank-requires : tie.Need-put-blank-requires
+put-blank-requires c κs = omega (arith, lent (read-else (blank-read (c .before))) .wide)
+
+recorded-requires : tie.Need-recorded-requires
+recorded-requires c κs = search needs
+
 enum-known-line : tie.Need-enum-known-line
 enum-known-line c = search needs
 
@@ -119,22 +131,36 @@ taken-requires c κs =
 same-length-4 : tie.Need-same-length-4
 same-length-4 c = search needs
 
-returns-4 : tie.Need-returns-4
-returns-4 c =
-    let r = c .turned-back4 .ensures in
-    let l = c .before .before in
-    let g = lent (read-else (bad-read l)) in
-    let bad = bad-line (g .whole) (g .short) (g .wide) (subst (Checks _ _ _) (l .line .given .1) (bad-read l .read .ensures)) in
-    ran-back bad (omega (arith, r .0)) (omega (arith, r .1)) (omega (arith, r .2))
-
 same-length-5 : tie.Need-same-length-5
 same-length-5 c = search needs
+
+returns-4 : tie.Need-returns-4
+returns-4 c =
+    let r = c .recorded .ensures in
+    let w = c .before .before .before in
+    let b = w .before .before in
+    let none = subst (Checks _ _ _) (b .enum-told .given .1) (blank-read b .read .ensures) in
+    took-blank (lent (read-else (blank-read b))) none (w .put-blank .ensures) (omega (arith, r .0)) (omega (arith, r .1)) (omega (arith, r .2))
 
 same-length-6 : tie.Need-same-length-6
 same-length-6 c = search needs
 
 returns-5 : tie.Need-returns-5
 returns-5 c =
+    let r = c .turned-back4 .ensures in
+    let l = c .before .before in
+    let g = lent (read-else (bad-read l)) in
+    let bad = bad-line (g .whole) (g .short) (g .wide) (subst (Checks _ _ _) (l .line .given .1) (bad-read l .read .ensures)) in
+    ran-back bad (omega (arith, r .0)) (omega (arith, r .1)) (omega (arith, r .2))
+
+same-length-7 : tie.Need-same-length-7
+same-length-7 c = search needs
+
+same-length-8 : tie.Need-same-length-8
+same-length-8 c = search needs
+
+returns-6 : tie.Need-returns-6
+returns-6 c =
     let t = c .before .before .before .before in
     let f = call-fits (t .before) in
     took _ _ (lent (read-else (fits-read f))) (f .n .given .1) (fits-read f .read .ensures) (t .taken .ensures)
@@ -158,6 +184,9 @@ run-spec =
     slice-aggregate-read
     slice-aggregate-read-2
     read-requires
+    enum-told
+    put-blank-requires
+    recorded-requires
     enum-known-line
     turned-back-requires-4
     enum-known-n
@@ -165,7 +194,10 @@ run-spec =
     slice-aggregate-taken-2
     taken-requires
     same-length-4
-    returns-4
     same-length-5
+    returns-4
     same-length-6
-    returns-5)
+    returns-5
+    same-length-7
+    same-length-8
+    returns-6)

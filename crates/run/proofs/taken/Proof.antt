@@ -44,6 +44,9 @@ returns c =
 put-record-requires : tie.Need-put-record-requires
 put-record-requires c κs = let e = c .before .before in (rack-made e, make-start (else-make e) .pre .1)
 
+recorded-requires : tie.Need-recorded-requires
+recorded-requires c κs = search needs
+
 same-length-2 : tie.Need-same-length-2
 same-length-2 c = search needs
 
@@ -52,8 +55,20 @@ same-length-3 c = search needs
 
 returns-2 : tie.Need-returns-2
 returns-2 c =
-    let r = c .before .before .before .before in
-    took-record _ (rack-made (record-else r) .0) refl refl (r .put-record .ensures)
+    let w = c .before .before .before .before .before in
+    let r = c .recorded .ensures in
+    took-record _ (rack-made (record-else w) .0) (omega (arith, r .0)) (omega (arith, r .1)) (omega (arith, r .2)) (w .put-record .ensures)
 
 pub taken-spec : {M : Type 1} → statement M
-taken-spec = tie.close (tie.spec make-requires turned-back-requires same-length returns put-record-requires same-length-2 same-length-3 returns-2)
+taken-spec =
+    tie.close
+    (tie.spec
+    make-requires
+    turned-back-requires
+    same-length
+    returns
+    put-record-requires
+    recorded-requires
+    same-length-2
+    same-length-3
+    returns-2)

@@ -2,6 +2,7 @@
 //! bytes without meaning. A family makes its cases one by one from their place,
 //! so that any of them can be made again.
 
+mod blank;
 mod damages;
 mod edits;
 mod fixed;
@@ -80,5 +81,6 @@ pub fn families() -> Vec<Family> {
     all.extend(mutations::families());
     all.extend(soup::families());
     all.extend(numbers::families());
+    all.extend(blank::families());
     all
 }

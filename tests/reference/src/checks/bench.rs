@@ -1,4 +1,5 @@
-//! The worked example of the paper and its bench cases P1 to P13.
+//! The worked example of the paper and its bench cases P1 to P13, P12 as document
+//! 02 changes it.
 
 use super::{holds, same, Tally, Verdict};
 use crate::{audit, change, level, linked, make, mate, program, run, Answer};
@@ -224,7 +225,8 @@ fn p11() -> Result<u64, String> {
 }
 
 fn p12() -> Result<u64, String> {
-    same("empty text", program(b""), b"(bad 4 1)\n".to_vec())?;
+    same("empty text", program(b""), b"(end (pairs 0))\n".to_vec())?;
+    same("a line feed", program(b"\n"), b"(bad 4 1)\n".to_vec())?;
     Ok(0)
 }
 

@@ -145,11 +145,12 @@ fn mixtures(
 /// record space.
 pub fn runs_turned_back(_: &mut Tally) -> Verdict {
     let long = text_of_length(TEXT_LIMIT + 1);
-    let texts: [(&str, u32, usize); 12] = [
+    let texts: [(&str, u32, usize); 13] = [
         (&long, 2, 0),
         (&"\n".repeat(TEXT_LIMIT + 1), 2, 0),
         (&"\n".repeat(TEXT_LIMIT), 4, 1),
-        ("", 4, 1),
+        ("\n", 4, 1),
+        ("", 0, 0),
         ("(rack (boards 4))\n(add (0 1) (draws 0 00))\n", 4, 2),
         ("(rack (boards 0))\n(add (0 1) (draws 0 0)\n", 4, 2),
         ("(rack (boards 257))\n(add (0 1) (draws))\nx", 4, 3),
@@ -175,8 +176,9 @@ pub fn runs_turned_back(_: &mut Tally) -> Verdict {
     Ok(format!("{tried} runs turned back by 1 to 5 or not: ok"))
 }
 
-/// The record of the only text that is run.
+/// The record of the only trace that is run, and that of the text of no bytes.
 const RECORD: &[u8] = b"(rack (boards 4))\n(refused 8)\n(end (pairs 0))\n";
+const BLANK: &[u8] = b"(end (pairs 0))\n";
 
 fn first_number(rack: usize, text: u32, record: usize) -> u32 {
     let rack = if rack == RACK_BYTES { 0 } else { 1 };
@@ -194,7 +196,11 @@ fn one_run(rack: usize, text: &str, record: usize, first: u32, line: usize) -> R
     let outcome = run(&mut lent, text.as_bytes(), &mut space);
     let start: String = text.chars().take(60).collect();
     let told = format!("run of {start:?} with rack {rack}, record space {record}");
-    let written: &[u8] = if first == 0 { RECORD } else { b"" };
+    let written = match (first, text) {
+        (0, "") => BLANK,
+        (0, _) => RECORD,
+        _ => b"",
+    };
     let wanted = Outcome {
         number: first,
         line,
@@ -206,7 +212,7 @@ fn one_run(rack: usize, text: &str, record: usize, first: u32, line: usize) -> R
     let stays = past == &noise(record)[written.len()..];
     holds(&format!("{told}: bytes past the record stay"), stays)?;
     let mut left = noise(rack);
-    if first == 0 {
+    if written == RECORD {
         make(&mut left, 4);
     }
     holds(&format!("{told}: the rack"), lent == left)

@@ -168,14 +168,15 @@ fn expect_fit(text: &str, told: &str) -> Result<(), String> {
 }
 
 /// The first line that doesn't fit, found by cutting the text at line feeds
-/// and writing each line again from the numbers in it.
+/// and writing each line again from the numbers in it. A text of no bytes has
+/// none.
 pub fn first_bad_line(text: &[u8]) -> Option<usize> {
     let mut lines: Vec<&[u8]> = text.split(|&byte| byte == b'\n').collect();
     let rest = lines.pop().unwrap_or(b"");
     let bad = (0..lines.len()).find(|&at| !fits(lines[at], at == 0));
     match bad {
         Some(at) => Some(at + 1),
-        None if lines.is_empty() || !rest.is_empty() => Some(lines.len() + 1),
+        None if !rest.is_empty() => Some(lines.len() + 1),
         None => None,
     }
 }

@@ -9,8 +9,12 @@ use crate::{RACK_BYTES, RECORD_SPACE, TEXT_LIMIT};
 
 const SEEDS: u64 = 6_000;
 
+/// Every byte of the rack buffer before a run.
+const LENT: u8 = 7;
+
 pub fn random_texts(tally: &mut Tally) -> Verdict {
     let mut numbers = [0; 6];
+    one_text(b"", tally).map_err(|why| format!("text of no bytes: {why}"))?;
     for seed in 0..SEEDS {
         let mut random = Random::new(0x7e87_0000 + seed);
         let mut text = random_text(&mut random);
@@ -27,7 +31,7 @@ pub fn random_texts(tally: &mut Tally) -> Verdict {
 
 /// The number that a run of this text comes to, if all is as it must be.
 fn one_text(text: &[u8], tally: &mut Tally) -> Result<u32, String> {
-    let (mut rack, mut record) = (vec![7; RACK_BYTES], vec![8; RECORD_SPACE + 5]);
+    let (mut rack, mut record) = (vec![LENT; RACK_BYTES], vec![8; RECORD_SPACE + 5]);
     let outcome = run(&mut rack, text, &mut record);
     let wanted = wanted(text, tally);
     let (last, lines) = match wanted {
@@ -39,7 +43,7 @@ fn one_text(text: &[u8], tally: &mut Tally) -> Result<u32, String> {
                 length: 0,
             };
             same("outcome", outcome, turned_back)?;
-            let untouched = rack.iter().all(|&byte| byte == 7);
+            let untouched = rack.iter().all(|&byte| byte == LENT);
             holds("the rack stays", untouched)?;
             holds("the record stays", record.iter().all(|&byte| byte == 8))?;
             return Ok(number);
@@ -62,7 +66,8 @@ fn one_text(text: &[u8], tally: &mut Tally) -> Result<u32, String> {
 
 /// What a run must come to: the number and line that turn it back, or the
 /// last rack and the record. The text fits by the other way of telling, so its
-/// numbers are read by cutting at all that isn't a digit.
+/// numbers are read by cutting at all that isn't a digit. If it has no line, the
+/// rack stays as it is lent.
 fn wanted(text: &[u8], tally: &mut Tally) -> Result<(Vec<u8>, String), (u32, usize)> {
     if text.len() > TEXT_LIMIT {
         return Err((2, 0));
@@ -71,9 +76,11 @@ fn wanted(text: &[u8], tally: &mut Tally) -> Result<(Vec<u8>, String), (u32, usi
         return Err((4, line));
     }
     let text = String::from_utf8_lossy(text).into_owned();
-    let mut rack = vec![0; RACK_BYTES];
+    let mut rack = vec![LENT; RACK_BYTES];
     let mut lines = text.lines();
-    let first = lines.next().unwrap_or("");
+    let Some(first) = lines.next() else {
+        return Ok((rack, "(end (pairs 0))\n".into()));
+    };
     let n = numbers(first)[0];
     if make(&mut rack, n) == 5 {
         return Err((5, 0));

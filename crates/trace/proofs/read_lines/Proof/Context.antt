@@ -1,4 +1,4 @@
--- What the walk of `trace::read` goes by: what the body is passed, the contracts that it cites, and what it has at a stand of its loop.
+-- What the walk of `trace::read_lines` goes by: what the body is passed, the contracts that it cites, and what it has at a stand of its loop.
 --     ty, En           the type of each local, read off the code, and the locals where they lie
 --     Passed           the three slices, with their lifetimes and shares, and what is asked of them.        Post     what is left at exit
 --     Known            the functions that the body calls meet their contracts
@@ -52,8 +52,8 @@ use Rattle.trace.proofs.with_line as with-line
 use Rattle.trace.proofs.with_line.Symbol.{name as #trace·with-line}
 use Rattle.trace.proofs.answer as answer
 use Rattle.trace.proofs.answer.Symbol.{name as #trace·answer}
-use Rattle.trace.proofs.read as read
-use Rattle.trace.proofs.read.Code.Mir as mirᶜ
+use Rattle.trace.proofs.read_lines as read-lines
+use Rattle.trace.proofs.read_lines.Code.Mir as mirᶜ
 
 abbrev tyAt : List Local → ℕ → Ty
 tyAt [] i = tyUnit
@@ -81,7 +81,7 @@ pub record Passed : Type 0 where
   pub heads-room : Room u32 (length (heads .now))
   pub words-room : Room u32 (length (words .now))
 
-abbrev pub stays : Stays (read.ended .signature .params) (read.ended .kept)
+abbrev pub stays : Stays (read-lines.ended .signature .params) (read-lines.ended .kept)
 stays = (
   stay-none-slice (0 ∷ []) tt (plain (λ _. u8)) yes,
   (stay-slice (1 ∷ []) tt (plain (λ _. u32)), (stay-slice (2 ∷ []) tt (plain (λ _. u32)), tt)),
@@ -126,11 +126,11 @@ module _ (p : Passed) where
   Less-wf = InvImage·wf remains (Nat·lt-wfRel .wf)
 
 module _ {M : Type 1} (𝓤 : URA M) (H : Heap 𝓤) (A : Atoms 𝓤) (at-mem : Memory → SProp 𝓤) (run : Routine → Fun 𝓤) where
-  abbrev pub entry : (p : Passed) → walkOf 𝓤 H A read.ended stays (read.clauses 𝓤 H A at-mem run) .Ghost
+  abbrev pub entry : (p : Passed) → walkOf 𝓤 H A read-lines.ended stays (read-lines.clauses 𝓤 H A at-mem run) .Ghost
   entry p = ((κs p, qs p, tt, args p, vals p), tt)
 
   abbrev pub Post : Passed → Val → SProp 𝓤
-  Post p = walkOf 𝓤 H A read.ended stays (read.clauses 𝓤 H A at-mem run) .post (entry p)
+  Post p = walkOf 𝓤 H A read-lines.ended stays (read-lines.clauses 𝓤 H A at-mem run) .post (entry p)
 
   pub record Known (C : Calls 𝓤 H) : Type 2 where
     pub opened : Triple 𝓤 (C #reader·opened) (Met 𝓤 H A opened.ended (opened.clauses 𝓤 H A at-mem run))

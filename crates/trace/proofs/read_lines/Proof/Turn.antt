@@ -1,4 +1,4 @@
--- One turn of the loop of `trace::read`. The reader and the words are lent to `next_line`, for lifetimes that the turn makes and ends, and then the heads
+-- One turn of the loop of `trace::read_lines`. The reader and the words are lent to `next_line`, for lifetimes that the turn makes and ends, and then the heads
 -- to `with_line`. All come back before the turn ends.
 --     reads-line   a turn from the test on: `next_line`.        keeps-line   the rest of it: `with_line`.        turns        a whole turn
 -- Assumes `Given`, and that the functions called meet their contracts.
@@ -48,9 +48,9 @@ use Rattle.trace.proofs.Progress.Laws as G′
 use Rattle.trace.proofs.ReadLoop.{LineRead, at-within, can-read, can-keep, line-holds, line-less}
 use Rattle.trace.proofs.SliceLent.{lends-slice, slice-back}
 use Rattle.trace.proofs.with_line as with-line
-use Rattle.trace.proofs.read.Code.Mir as mirᶜ
-use Rattle.trace.proofs.read.Proof.Context.{ty, En, Passed, reader, Stood, Less, Post, Known, At, With}
-use Rattle.trace.proofs.read.Proof.End.{leaves}
+use Rattle.trace.proofs.read_lines.Code.Mir as mirᶜ
+use Rattle.trace.proofs.read_lines.Proof.Context.{ty, En, Passed, reader, Stood, Less, Post, Known, At, With}
+use Rattle.trace.proofs.read_lines.Proof.End.{leaves}
 
 -- what is left of a sequence after its first part
 abbrev past : Code → Code

@@ -1,4 +1,4 @@
--- The code of `trace::read` after its loop, for both ways out of it: the answer, and the end.
+-- The code of `trace::read_lines` after its loop, for both ways out of it: the answer, and the end.
 --     leaves       from a state at which a line doesn't fit or the text is at its end
 -- Assumes `Given`, and that the functions called meet their contracts.
 use mathlib.Core.Path.{_≡_, refl, sym, subst}
@@ -31,9 +31,9 @@ use Rattle.trace.proofs.Checked as K
 use Rattle.trace.proofs.Checked.Laws as K′
 use Rattle.trace.proofs.ReadLoop.{answers}
 use Rattle.trace.proofs.answer as answer
-use Rattle.trace.proofs.read as read
-use Rattle.trace.proofs.read.Code.Mir as mirᶜ
-use Rattle.trace.proofs.read.Proof.Context.{Passed, Known, Stood, stays, entry, Post, En, At}
+use Rattle.trace.proofs.read_lines as read-lines
+use Rattle.trace.proofs.read_lines.Code.Mir as mirᶜ
+use Rattle.trace.proofs.read_lines.Proof.Context.{Passed, Known, Stood, stays, entry, Post, En, At}
 
 module _ {M : Type 1} (𝓤 : URA M) (H : Heap 𝓤) (A : Atoms 𝓤) (W : Given 𝓤 H A) (at-mem : Memory → SProp 𝓤) (run : Routine → Fun 𝓤)
     (p : Passed) (𝓣 : Tables 𝓤 H) (known : Known 𝓤 H A at-mem run (𝓣 .C)) (l : ℕ → ℕ) where
@@ -54,7 +54,7 @@ module _ {M : Type 1} (𝓤 : URA M) (H : Heap 𝓤) (A : Atoms 𝓤) (W : Given
       move ! (span 9 28 ++ (1 ∷ span 37 9)) $ releases ! $
       -- [the answer; what the reader owns; [κ]; the heads; [κ₁]; the words; [κ₂]; the text]
       keep ! (2 ∷ 4 ∷ 6 ∷ 7 ∷ 3 ∷ 5 ∷ 0 ∷ []) $
-      ends W read.ended stays (read.clauses 𝓤 H A at-mem run) (entry 𝓤 H A at-mem run p) u r (tt, (t .stand .heads, (t .stand .words, tt)))
+      ends W read-lines.ended stays (read-lines.clauses 𝓤 H A at-mem run) (entry 𝓤 H A at-mem run p) u r (tt, (t .stand .heads, (t .stand .words, tt)))
       (tt, (t .inv .heads-long, (t .inv .words-long, tt))) (shown 𝓤 (checks r e))))
     where
       checks : (r : Checked) → r ≡ answerOf (t .stand .got) → Checks (p .text .now) (t .stand .heads) (t .stand .words) r
