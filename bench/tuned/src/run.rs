@@ -18,23 +18,16 @@ pub struct Outcome {
     pub length: usize,
 }
 
-/// The record of a text of no bytes.
-const BLANK: &[u8] = b"(end (pairs 0))\n";
-
 /// Runs a text. Turned back, it writes nothing; otherwise the rack holds the
-/// last state, or what it held if the text has no bytes, and the record stands
-/// at the start of its space. No change within a run is audited: the rack is
-/// made here and stays sound.
+/// last state and the record stands at the start of its space. No change
+/// within a run is audited: the rack is made here and stays sound. A text of no
+/// bytes makes none.
 pub fn run(rack: &mut RackBytes, text: &[u8], space: &mut [u8]) -> Outcome {
+    if text.is_empty() {
+        return blank(space);
+    }
     let trace = match wanted(text, space.len()) {
-        Ok(Some(trace)) => trace,
-        Ok(None) => {
-            space[..BLANK.len()].copy_from_slice(BLANK);
-            return Outcome {
-                length: BLANK.len(),
-                ..Outcome::default()
-            };
-        }
+        Ok(trace) => trace,
         Err((number, line)) => {
             return Outcome {
                 number,
@@ -60,23 +53,35 @@ pub fn run(rack: &mut RackBytes, text: &[u8], space: &mut [u8]) -> Outcome {
     }
 }
 
-/// Numbers 2 to 5, first fit first, with the line of 4; otherwise the trace, or
-/// none if the text has no bytes.
-fn wanted(text: &[u8], space: usize) -> Result<Option<Trace<'_>>, (u32, usize)> {
+/// The run of a text of no bytes, which number 3 alone turns back.
+#[cold]
+fn blank(space: &mut [u8]) -> Outcome {
+    let record = b"(end (pairs 0))\n";
+    let (number, length) = match space.len() < RECORD_SPACE {
+        true => (3, 0),
+        false => (0, record.len()),
+    };
+    space[..length].copy_from_slice(&record[..length]);
+    Outcome {
+        number,
+        line: 0,
+        length,
+    }
+}
+
+/// Numbers 2 to 5, first fit first, with the line of 4; otherwise the trace.
+fn wanted(text: &[u8], space: usize) -> Result<Trace<'_>, (u32, usize)> {
     if text.len() > TEXT_LIMIT {
         return Err((2, 0));
     }
     if space < RECORD_SPACE {
         return Err((3, 0));
     }
-    if text.is_empty() {
-        return Ok(None);
-    }
     let trace = text::read(text).map_err(|line| (4, line))?;
     if !(1..=256).contains(&trace.vertices) {
         return Err((5, 0));
     }
-    Ok(Some(trace))
+    Ok(trace)
 }
 
 /// One change of a run; the pairs held are kept from change to change.
