@@ -98,9 +98,10 @@ uint32_t pairing_change(uint8_t *rack, size_t len, uint32_t code, uint32_t a, ui
 /*
  * Runs a trace text: makes the rack that its line 1 asks for in the buffer, whatever its bytes hold before, makes the changes of the further
  * lines on it, and writes the record into the space. The whole text is read before anything is written. A change that is refused (8 to 12)
- * is a line of the record and ends nothing. *length is the record's length; the bytes of the space past it keep their values. *line is the
- * first line that doesn't fit, counted from 1, if the number is 4, and otherwise 0. A text of no bytes sets no rack: unless the number is 1 or 3,
- * it is 0, the record is the line `(end (pairs 0))`, 16 bytes with its line feed, and the buffer keeps its bytes.
+ * is a line of the record and ends nothing. The record's last line is `(end (pairs P) (mean Q R))`: the pairs then held, and twice the edges as
+ * Q times n plus R, R below n. *length is the record's length; the bytes of the space past it keep their values. *line is the first line that
+ * doesn't fit, counted from 1, if the number is 4, and otherwise 0. A text of no bytes sets no rack: unless the number is 1 or 3, it is 0, the
+ * record is the line `(end (pairs 0))`, 16 bytes with its line feed, and the buffer keeps its bytes.
  * Numbers: 0 to 5.
  */
 uint32_t pairing_run(uint8_t *rack, size_t len, const uint8_t *text, size_t text_len, uint8_t *space, size_t space_len, size_t *line,

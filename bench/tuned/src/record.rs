@@ -3,7 +3,7 @@
 //! the next line covers that, but the end line has to be written to the byte.
 
 use crate::change::Answer;
-use crate::layout::{mates, rank, vertices, RackBytes};
+use crate::layout::{edges, mates, rank, vertices, RackBytes};
 use std::mem::take;
 
 pub struct Record<'a> {
@@ -95,16 +95,21 @@ impl<'a> Record<'a> {
                 self.pair(v as u8, mate, rank(rack, v as u8) - 1);
             }
         }
-        self.end(pairs);
+        let (twice, n) = (2 * u32::from(edges(rack)), vertices(rack) as u32);
+        self.end(pairs, twice / n, twice % n);
     }
 
-    /// The end line, made aside and then put down to the byte.
-    fn end(&mut self, pairs: u32) {
-        let mut line = [0; 24];
+    /// The end line, made aside and then put down to the byte: the pairs, and
+    /// the mean of the edges, so many whole ones a vertex and the rest.
+    fn end(&mut self, pairs: u32, whole: u32, rest: u32) {
+        let mut line = [0; 48];
         let mut aside = Record::start(&mut line);
         aside.piece(*b"(end (pairs ", 12);
-        aside.figure(pairs, *b"))\n\0", 3);
-        let length = 24 - aside.left();
+        aside.figure(pairs, *b") (m", 4);
+        aside.piece(*b"ean ", 4);
+        aside.figure(whole, *b" \0\0\0", 1);
+        aside.figure(rest, *b"))\n\0", 3);
+        let length = 48 - aside.left();
         self.put(&line[..length]);
     }
 
@@ -167,14 +172,15 @@ mod tests {
     /// The end line writes no byte past its own.
     #[test]
     fn end_lines() {
-        for pairs in 0..=128 {
+        for (whole, rest) in (0..=255).flat_map(|w| (0..=255).map(move |r| (w, r))) {
+            let pairs = (whole ^ rest) % 129;
             let mut space = [7; 64];
             let mut record = Record::start(&mut space);
-            record.end(pairs);
+            record.end(pairs, whole, rest);
             let length = 64 - record.left();
-            let wanted = format!("(end (pairs {pairs}))\n");
+            let wanted = format!("(end (pairs {pairs}) (mean {whole} {rest}))\n");
             assert_eq!(&space[..length], wanted.as_bytes());
-            assert!(space[length..].iter().all(|&byte| byte == 7), "{pairs}");
+            assert!(space[length..].iter().all(|&byte| byte == 7), "{wanted}");
         }
     }
 }

@@ -44,7 +44,7 @@
 //!               (done (draws 1) (falls 0) (pairs 1))\n\
 //!               (refused 10)\n\
 //!               (pair (0 1) (level 0))\n\
-//!               (end (pairs 1))\n";
+//!               (end (pairs 1) (mean 0 2))\n";
 //! assert_eq!(&space[..length], record.as_bytes());
 //!
 //! // Without its last byte the text's third line doesn't fit.
@@ -174,8 +174,10 @@ pub fn change(rack: &mut [u8], code: u32, a: u32, b: u32, words: &[u32]) -> Answ
 
 /// Runs a trace text: the rack that it asks for is made in the buffer and
 /// changed line by line, and the record stands at the start of the space, whose
-/// further bytes keep their values. A text of no bytes sets no rack: the buffer
-/// keeps its bytes, and the record is `(end (pairs 0))`. The number is 0 to 5.
+/// further bytes keep their values. Its last line is `(end (pairs P) (mean Q R))`:
+/// the pairs then held, and twice the links as Q times the boards plus R, R below
+/// their number. A text of no bytes sets no rack: the buffer keeps its bytes, and
+/// the record is `(end (pairs 0))`. The number is 0 to 5.
 pub fn run(rack: &mut [u8], text: &[u8], space: &mut [u8]) -> Outcome {
     let [mut line, mut length] = [UNWRITTEN as usize; 2];
     // SAFETY: the slices are lent for the call, the text only to be read; the figures are locals.

@@ -2,6 +2,5 @@
 pub mod Tally
 pub mod Walk
 pub mod Linked
-pub mod Sums
 pub mod Phi
 pub mod Whole

@@ -12,13 +12,13 @@ use Rattle.model.specs.Counting.{sum, bit, count}
 use Rattle.model.specs.State.{edge, near, below, phi, edges}
 use Rattle.model.specs.Bytes.{sizeAt, rankAt, ownsAt, read}
 use Rattle.model.proofs.Tests.{le?, eq?, leb-yes, leb-no}
+use Rattle.model.proofs.Sums.{sum-swap, double-count}
 use Rattle.model.proofs.Counting.{sum-eq, sum-add, sum-zero, sum-point, bit-no}
 use Rattle.model.proofs.Prefix.{count-skip, count-ext}
 use Rattle.model.proofs.Limits.{phi-above, phi-zero}
 use Rattle.model.proofs.Reading.{read-size, read-rank, read-owns}
 use Rattle.layout.specs.Rows.{degreeAt}
 use Rattle.audit.specs.Tally.{share, tallied, upTo, Holds}
-use Rattle.audit.proofs.Sums.{sum-swap, double-count}
 use Rattle.audit.proofs.Tally.{tallied-none, there, here, there-in, here-same, here-other, share-same, share-other}
 
 -- the entries for one rank more

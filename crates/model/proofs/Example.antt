@@ -1,5 +1,5 @@
 -- The worked example of document 01: its trace text is the printed form of a trace, and the record of that trace, computed from the
--- definitions, is the record in the paper, to the byte. And the empty text, P12. Assumes nothing.
+-- definitions, is the record in the paper, to the byte, with the end line as W-202 gives it. And the empty text, P12. Assumes nothing.
 use mathlib.Core.Path.{_≡_, refl, ap, subst}
 use mathlib.Core.Logic.{_⊎_, inl, inr}
 use mathlib.Core.Bool.{true}
@@ -7,13 +7,13 @@ use mathlib.Core.List.{List, [], _∷_}
 use Prim.Native.Nat.{ℕ, _≤_}
 use native.Mathlib.Omega.{arith}
 use lib.ListN.{length, getD}
-use Rattle.model.specs.State.{base, empty}
+use Rattle.model.specs.State.{base, empty, edges}
 use Rattle.model.specs.Bytes.{write}
 use Rattle.model.specs.Sound.{sizeGood}
 use Rattle.model.specs.Calls.{sized}
 use Rattle.model.specs.Text.{bytes, decimalIn, decimal, texts, over}
 use Rattle.model.specs.Trace.{Trace, LineChange, Holds, rackLine, codeText, wordText, changeLine, traceText, onFirst, linesOf, FirstBad}
-use Rattle.model.specs.Record.{answerLine, pairLine, endLine, pairLines, after, changesText, recordText}
+use Rattle.model.specs.Record.{answerLine, pairLine, mean, endText, endLine, pairLines, after, changesText, recordText}
 use Rattle.model.specs.Run.{Ran, blank, ran, recorded, longest, spaceLength}
 use Rattle.model.proofs.Table.{adds, drops, computed}
 use Rattle.model.proofs.Bench.{zeros}
@@ -29,7 +29,7 @@ exampleText =
 -- "it prints"
 unfoldable pub exampleRecord : List ℕ
 exampleRecord =
-    bytes "(rack (boards 4))\n(done (draws 1) (falls 0) (pairs 1))\n(done (draws 0) (falls 0) (pairs 1))\n(done (draws 1) (falls 0) (pairs 2))\n(done (draws 0) (falls 2) (pairs 1))\n(refused 10)\n(pair (2 3) (level 0))\n(end (pairs 1))\n"
+    bytes "(rack (boards 4))\n(done (draws 1) (falls 0) (pairs 1))\n(done (draws 0) (falls 0) (pairs 1))\n(done (draws 1) (falls 0) (pairs 2))\n(done (draws 0) (falls 2) (pairs 1))\n(refused 10)\n(pair (2 3) (level 0))\n(end (pairs 1) (mean 1 0))\n"
 
 -- a change of two small vertices with the words 0 0 fits on a line
 fits : (code a b : ℕ) → (code ≡ 1) ⊎ (code ≡ 2) → a ≤ 3 → b ≤ 3 → LineChange (record { code = code; a = a; b = b; words = zeros })
@@ -60,7 +60,7 @@ example-holds = record {
 }
 
 pub example-record : recordText base example ≡ exampleRecord
-unfolding example exampleRecord zeros recordText rackLine changesText answerLine pairLine pairLines endLine texts decimal decimalIn computed
+unfolding example exampleRecord zeros recordText rackLine changesText answerLine pairLine pairLines edges mean endText texts decimal decimalIn computed
 example-record = refl
 
 -- So a run of the text, in any rack buffer and any record space of their lengths, puts the paper's record at the front of the space,
@@ -77,6 +77,11 @@ example-ran rack space p q =
 
     four-good : sizeGood 4 ≡ true
     four-good = unfold sizeGood in refl
+
+-- Another rack, whose mean has a rest: three boards in a row have two links and one pair, and four is once three and one over.
+pub rest-line : endLine (after base (empty 3) (adds 0 1 zeros ∷ adds 1 2 zeros ∷ [])) ≡ bytes "(end (pairs 1) (mean 1 1))\n"
+unfolding zeros edges mean endText decimal decimalIn computed
+rest-line = refl
 
 -- P12, as W-201 changes it: the empty text is taken, in any rack buffer and any record space of their lengths. The rack keeps its bytes, and sixteen
 -- bytes of the space are written.

@@ -1,6 +1,7 @@
 -- What follows at once from the definitions, and the laws that every crate above uses.
 pub mod Tests
 pub mod Counting
+pub mod Sums
 pub mod Prefix
 pub mod Lists
 pub mod Chunks
@@ -14,4 +15,5 @@ pub mod Tested
 pub mod Table
 pub mod Bench
 pub mod Hands
+pub mod Mean
 pub mod Example

@@ -4,7 +4,7 @@ use mathlib.Core.Bool.{Bool, true, false}
 use mathlib.Core.List.{List, [], _∷_}
 use Prim.Native.Nat.{ℕ, zero, suc}
 use lib.Dec.{eqb}
-use Rattle.model.specs.State.{edge}
+use Rattle.model.specs.State.{edge, edgeCount}
 use Rattle.model.specs.Bytes.{read}
 use Rattle.model.specs.Change.{Change, number, withEdge, withoutEdge}
 
@@ -12,6 +12,10 @@ use Rattle.model.specs.Change.{Change, number, withEdge, withoutEdge}
 pub record Ledger : Type 0 where
   pub n : ℕ
   pub there : ℕ → ℕ → Bool
+
+-- how many links it holds: "A-B and B-A are one link."
+unfoldable pub links : Ledger → ℕ
+links l = edgeCount (l .n) (l .there)
 
 -- "both taken from the first rack: v-w is a link if bit w of row v or bit v of row w is set"
 unfoldable pub ledgerOf : List ℕ → Ledger

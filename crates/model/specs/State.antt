@@ -40,9 +40,12 @@ below s v j = count (near s v j) (s .n)
 unfoldable pub phi : State → ℕ → ℕ → ℕ
 phi s v j = elim (leb (s .rank v) j) [ true ↦ below s v j | false ↦ 0 ]
 
--- the number of edges, each at its lower end
+-- the number of edges among the vertices below n, each at its lower end
+abbrev pub edgeCount : ℕ → (ℕ → ℕ → Bool) → ℕ
+edgeCount n there = sum (λ v. count (λ w. ltb v w && there v w) n) n
+
 unfoldable pub edges : State → ℕ
-edges s = sum (λ v. count (λ w. ltb v w && edge s v w) (s .n)) (s .n)
+edges s = edgeCount (s .n) (edge s)
 
 -- "without one it is idle"
 unfoldable pub free : State → ℕ → Bool

@@ -7,12 +7,12 @@ use native.Mathlib.Omega.{arith}
 use lib.Dec.{T, ltb, ltb→lt}
 use lib.ListN.{length}
 use Rattle.model.specs.Counting.{count}
-use Rattle.model.specs.State.{base, State, phi}
-use Rattle.model.specs.Bytes.{sizeAt, rankAt, mateAt, phiAt, ownsAt, named, mateEntry, read, write}
+use Rattle.model.specs.State.{base, State, phi, edges}
+use Rattle.model.specs.Bytes.{sizeAt, edgesAt, rankAt, mateAt, phiAt, ownsAt, named, mateEntry, read, write}
 use Rattle.model.specs.Valid.{Valid}
 use Rattle.model.proofs.Tests.{eq?, le?, bool-ext}
 use Rattle.model.proofs.Prefix.{count-ext, count-skip}
-use Rattle.model.proofs.Fields.{write-length, size-write, rank-write, mate-write, phi-write, owns-write}
+use Rattle.model.proofs.Fields.{write-length, size-write, edges-write, rank-write, mate-write, phi-write, owns-write}
 use Rattle.model.proofs.Limits.{mateEntry-free, mateEntry-mate, mate-past, mate-inside}
 use Rattle.model.proofs.Reading.{named-free, named-mate, read-size, read-rank, read-rank-past, read-mate, read-mate-past, read-owns, read-owned}
 use Rattle.layout.specs.Setters.{Sized}
@@ -82,6 +82,9 @@ module _ {bs : List ℕ} (h : Held bs) where
 
   pub held-size : sizeAt bs ≡ read bs .n
   held-size = sym (read-size bs)
+
+  pub held-edges : edgesAt bs ≡ edges (read bs)
+  held-edges = ap edgesAt (h .written) ∙ edges-write (read bs)
 
   pub held-rank : (v : ℕ) → v < 256 → rankAt bs v ≡ read bs .rank v
   held-rank v l = ap (λ (x : List ℕ). rankAt x v) (h .written) ∙ rank-write (read bs) v l

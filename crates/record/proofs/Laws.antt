@@ -6,35 +6,35 @@ use mathlib.Core.List.{List, _++_, append-assoc}
 use native.Mathlib.Omega.{arith}
 use lib.ListN.{length, length-append}
 use Rattle.model.specs.Text.{bytes, decimal, largest}
-use Rattle.model.specs.State.{State, pairs}
+use Rattle.model.specs.State.{State}
 use Rattle.model.specs.Change.{Answer}
 use Rattle.model.specs.Trace.{rackLine}
-use Rattle.model.specs.Record.{answerLine, pairLine, endLine}
+use Rattle.model.specs.Record.{answerLine, pairLine, endText}
 use Rattle.model.specs.Run.{badLine}
 use Rattle.text.specs.Writing.{Put}
-use Rattle.text.proofs.Over.{put-as}
-use Rattle.text.proofs.Lengths.{one-most}
+use Rattle.text.proofs.Over.{part, put-as}
+use Rattle.text.proofs.Lengths.{figure-most}
 use Rattle.text.proofs.Answers.{done-line, refused-line}
-use Rattle.record.specs.Line.{oneText, threeText, doneText, refusedText, pairText, endText}
+use Rattle.text.proofs.Writers.{Chain, room}
+use Rattle.record.specs.Line.{piece, oneText, threeText, doneText, refusedText, pairText, meanOf}
 
 -- Pieces.
 
-pub one-length : (p : List ℕ) (x : ℕ) (e : List ℕ) → length (oneText p x e) ≡ length p + length (decimal x) + length e
-unfolding oneText
-one-length p x e = simp length-append (omega arith)
+-- the room that one needs, what it leaves, and that there is room for one after others
+pub piece-most : (p : List ℕ) (x : ℕ) → x ≤ largest → length (piece p x) ≤ length p + 10
+unfolding piece
+piece-most p x h = omega (arith, length-append p (decimal x), figure-most x h)
 
--- line 1 is a line of one figure
-pub rack-parts : (n : ℕ) → oneText (bytes "(rack (boards ") n (bytes "))\n") ≡ rackLine n
-unfolding oneText rackLine
-rack-parts n = refl
+pub piece-leaves : (p : List ℕ) (x k j : ℕ) → x ≤ largest → length p + 10 + k ≤ j → length (piece p x) + k ≤ j
+piece-leaves p x k j h l = omega (arith, piece-most p x h)
 
--- The room that they need.
+pub piece-room : {k : ℕ} (c : Chain k) (p : List ℕ) (x : ℕ) → x ≤ largest → length p + 10 ≤ k → length (piece p x) ≤ length (part (c .at) (c .bytes))
+piece-room c p x h l = room c (length (piece p x)) (omega (arith, piece-most p x h))
 
-pub one-room : (p : List ℕ) (x : ℕ) (e : List ℕ) → x ≤ largest → length (oneText p x e) ≤ length p + length e + 10
-unfolding oneText
-one-room p x e h = one-most p x e h
+-- A piece or line that was written, said of equal figures.
 
--- A line that was written, said of equal figures.
+pub put-piece-as : (p : List ℕ) (x x′ : ℕ) {old new : List ℕ} {k : ℕ} → x ≡ x′ → Put (piece p x) old new k → Put (piece p x′) old new k
+put-piece-as p x x′ h = put-as _ _ (λ t. piece p (h t))
 
 pub put-one-as : (p : List ℕ) (x x′ : ℕ) (e : List ℕ) {old new : List ℕ} {k : ℕ} → x ≡ x′ → Put (oneText p x e) old new k → Put (oneText p x′ e) old new k
 put-one-as p x x′ e h = put-as _ _ (λ t. oneText p (h t) e)
@@ -51,11 +51,21 @@ pub one-written : (p : List ℕ) (x : ℕ) (e : List ℕ) {old new : List ℕ} {
 unfolding oneText
 one-written p x e w x′ h = put-one-as p x x′ e h (put-as _ _ (append-assoc p (decimal x) e) w)
 
-pub bad-written : (x y : ℕ) {old new : List ℕ} {k : ℕ}
-    → Put ((((bytes "(bad " ++ decimal x) ++ bytes " ") ++ decimal y) ++ bytes ")\n") old new k
+pub rack-written : (x : ℕ) {old new : List ℕ} {k : ℕ} → Put (piece (bytes "(rack (boards ") x ++ bytes "))\n") old new k
+    → (x′ : ℕ) → x ≡ x′ → Put (rackLine x′) old new k
+unfolding piece rackLine
+rack-written x w x′ h = put-as _ _ (simp append-assoc (λ t. rackLine (h t))) w
+
+pub bad-written : (x y : ℕ) {old new : List ℕ} {k : ℕ} → Put ((piece (bytes "(bad ") x ++ piece (bytes " ") y) ++ bytes ")\n") old new k
     → (x′ y′ : ℕ) → x ≡ x′ → y ≡ y′ → Put (badLine x′ y′) old new k
-unfolding badLine
+unfolding piece badLine
 bad-written x y w x′ y′ h i = put-as _ _ (simp append-assoc (λ t. badLine (h t) (i t))) w
+
+pub pieces-written : (p : List ℕ) (x : ℕ) (q : List ℕ) (y : ℕ) (r : List ℕ) (z : ℕ) (e : List ℕ) {old new : List ℕ} {k : ℕ}
+    → Put (((piece p x ++ piece q y) ++ piece r z) ++ e) old new k
+    → (x′ y′ z′ : ℕ) → x ≡ x′ → y ≡ y′ → z ≡ z′ → Put (threeText p x′ q y′ r z′ e) old new k
+unfolding piece threeText
+pieces-written p x q y r z e w x′ y′ z′ h i j = put-as _ _ (simp append-assoc (λ t. threeText p (h t) q (i t) r (j t) e)) w
 
 pub three-written : (p : List ℕ) (x : ℕ) (q : List ℕ) (y : ℕ) (r : List ℕ) (z : ℕ) (e : List ℕ) {old new : List ℕ} {k : ℕ}
     → Put ((((((p ++ decimal x) ++ q) ++ decimal y) ++ r) ++ decimal z) ++ e) old new k
@@ -64,6 +74,11 @@ unfolding threeText
 three-written p x q y r z e w x′ y′ z′ h i j = put-as _ _ (simp append-assoc (λ t. threeText p (h t) q (i t) r (j t) e)) w
 
 -- The lines of `model`.
+
+pub end-parts : (x y z : ℕ)
+    → threeText (bytes "(end (pairs ") x (bytes ") (mean ") y (bytes " ") z (bytes "))\n") ≡ endText x (meanOf y z)
+unfolding threeText endText
+end-parts x y z = refl
 
 pub answer-done : (x : Answer) → x .number ≡ 0 → answerLine x ≡ doneText (x .draws) (x .falls) (x .pairs)
 unfolding threeText
@@ -76,7 +91,3 @@ answer-refused x h = refused-line x h
 pub pair-line : (s : State) (v : ℕ) → pairLine s v ≡ pairText v (s .mate v) (s .rank v - 1)
 unfolding pairLine threeText
 pair-line s v = refl
-
-pub end-line : (s : State) → endLine s ≡ endText (pairs s)
-unfolding endLine oneText
-end-line s = refl

@@ -3,6 +3,7 @@ use mathlib.Core.List.{List, _++_}
 use Prim.Native.Nat.{ℕ}
 use Rattle.model.specs.Text.{bytes, decimal}
 use Rattle.model.specs.Change.{Answer}
+use Rattle.model.specs.Record.{Mean}
 
 -- how many bytes a printer is lent at least: no first line, answer's line, pair's line, end line and line of a
 -- run turned back, of figures of 32 bits, is longer
@@ -16,12 +17,15 @@ abbrev pub pairRoom : ℕ
 pairRoom = 50
 
 abbrev pub endRoom : ℕ
-endRoom = 25
+endRoom = 54
 
 abbrev pub badRoom : ℕ
 badRoom = 28
 
--- a line of one figure, and one of three
+-- a fixed text and a figure after it, of which lines are made; a line of one figure, and one of three
+unfoldable pub piece : List ℕ → ℕ → List ℕ
+piece p x = p ++ decimal x
+
 unfoldable pub oneText : List ℕ → ℕ → List ℕ → List ℕ
 oneText p x e = p ++ (decimal x ++ e)
 
@@ -44,6 +48,6 @@ refusedText number = oneText (bytes "(refused ") number (bytes ")\n")
 abbrev pub pairText : ℕ → ℕ → ℕ → List ℕ
 pairText a b level = threeText (bytes "(pair (") a (bytes " ") b (bytes ") (level ") level (bytes "))\n")
 
--- "The end line is `(end (pairs P))`, P the pairs then held."
-abbrev pub endText : ℕ → List ℕ
-endText pairs = oneText (bytes "(end (pairs ") pairs (bytes "))\n")
+-- a mean by its figures
+abbrev pub meanOf : ℕ → ℕ → Mean
+meanOf whole rest = record { whole = whole; rest = rest }

@@ -3,20 +3,19 @@
 ghost use Prim.Native.Nat.{_≤_};
 ghost use lib.ListN.{length};
 ghost use Rattle.model.specs.Trace.{rackLine};
-ghost use Rattle.model.specs.Record.{answerLine, blankRecord};
+ghost use Rattle.model.specs.Record.{answerLine, endText, blankRecord};
 ghost use Rattle.model.specs.Run.{badLine};
 ghost use Rattle.text.specs.Writing.{Put};
-ghost use Rattle.record.specs.Line.{rackRoom, answerRoom, pairRoom, endRoom, badRoom, oneText, answered, pairText, endText};
+ghost use Rattle.record.specs.Line.{rackRoom, answerRoom, pairRoom, endRoom, badRoom, piece, answered, pairText, meanOf};
 ghost use Rattle.record.specs.Line.{doneText, refusedText};
 
-// Writes a line of one figure, between the fixed texts p and e.
-fn put_one(out: &mut [u8], p: &[u8], x: u32, e: &[u8]) -> usize
-    requires { ⌜ length (oneText (now p) x (now e)) ≤ length (now out) ⌝ }
-    ensures { λ r. ⌜ Put (oneText (now (p .entry)) x (now (e .entry))) (now (out .entry)) (now (out .exit)) r ⌝ }
+// Writes the fixed text p and a figure after it.
+fn put_piece(out: &mut [u8], p: &[u8], x: u32) -> usize
+    requires { ⌜ length (piece (now p) x) ≤ length (now out) ⌝ }
+    ensures { λ r. ⌜ Put (piece (now (p .entry)) x) (now (out .entry)) (now (out .exit)) r ⌝ }
 {
     let a = text::put_literal(out, p);
-    let b = a + text::put_number(&mut out[a..], x);
-    b + text::put_literal(&mut out[b..], e)
+    a + text::put_number(&mut out[a..], x)
 }
 
 // Writes line 1, which the record repeats from the trace.
@@ -24,11 +23,12 @@ pub fn put_rack(out: &mut [u8], n: u32) -> usize
     requires { ⌜ rackRoom ≤ length (now out) ⌝ }
     ensures { λ r. ⌜ Put (rackLine n) (now (out .entry)) (now (out .exit)) r ⌝ }
 {
-    put_one(out, b"(rack (boards ", n, b"))\n")
+    let a = put_piece(out, b"(rack (boards ", n);
+    a + text::put_literal(&mut out[a..], b"))\n")
 }
 
 // The lines of a change and of a pair are printed most. Their fixed texts stand where they are written, so that each writer is compiled in with
-// the text's length known; in put_one, which is lent its texts, it is not.
+// the text's length known; in put_piece, which is lent its text, it is not.
 
 // The line of a change made.
 fn put_done(out: &mut [u8], draws: u32, falls: u32, pairs: u32) -> usize
@@ -80,12 +80,15 @@ pub fn put_pair(out: &mut [u8], a: u32, b: u32, level: u32) -> usize
     n + text::put_literal(&mut out[n..], b"))\n")
 }
 
-// Writes the end line.
-pub fn put_end(out: &mut [u8], pairs: u32) -> usize
+// Writes the end line: the pairs held, and the mean of the links, `whole` for each vertex and `rest` left over.
+pub fn put_end(out: &mut [u8], pairs: u32, whole: u32, rest: u32) -> usize
     requires { ⌜ endRoom ≤ length (now out) ⌝ }
-    ensures { λ r. ⌜ Put (endText pairs) (now (out .entry)) (now (out .exit)) r ⌝ }
+    ensures { λ r. ⌜ Put (endText pairs (meanOf whole rest)) (now (out .entry)) (now (out .exit)) r ⌝ }
 {
-    put_one(out, b"(end (pairs ", pairs, b"))\n")
+    let a = put_piece(out, b"(end (pairs ", pairs);
+    let b = a + put_piece(&mut out[a..], b") (mean ", whole);
+    let c = b + put_piece(&mut out[b..], b" ", rest);
+    c + text::put_literal(&mut out[c..], b"))\n")
 }
 
 // Writes the record of a blank paper, which is this line alone.
@@ -101,9 +104,7 @@ pub fn put_bad(out: &mut [u8], number: u32, line: u32) -> usize
     requires { ⌜ badRoom ≤ length (now out) ⌝ }
     ensures { λ r. ⌜ Put (badLine number line) (now (out .entry)) (now (out .exit)) r ⌝ }
 {
-    let i = text::put_literal(out, b"(bad ");
-    let j = i + text::put_number(&mut out[i..], number);
-    let k = j + text::put_literal(&mut out[j..], b" ");
-    let l = k + text::put_number(&mut out[k..], line);
-    l + text::put_literal(&mut out[l..], b")\n")
+    let a = put_piece(out, b"(bad ", number);
+    let b = a + put_piece(&mut out[a..], b" ", line);
+    b + text::put_literal(&mut out[b..], b")\n")
 }

@@ -10,16 +10,16 @@ use lib.Dec.{T, ltb, eqb, ltb→lt, eqb→eq, lt→ltb}
 use lib.ListN.{length, take, drop}
 use lib.Seq.{take-at}
 use Rattle.model.specs.Counting.{each}
-use Rattle.model.specs.State.{State, base, empty, edge}
+use Rattle.model.specs.State.{State, base, empty, edge, edges}
 use Rattle.model.specs.Bytes.{rankAt, mateAt, read, write}
 use Rattle.model.specs.Sound.{sizeGood}
 use Rattle.model.specs.Valid.{Valid}
 use Rattle.model.specs.Text.{bytes, decimal, over}
 use Rattle.model.specs.Change.{Change, Changed, change}
 use Rattle.model.specs.Calls.{ChangedBytes, changeBytes}
-use Rattle.model.specs.Ledger.{Ledger, ledgerNumber, entered, enteredAll}
+use Rattle.model.specs.Ledger.{Ledger, links, ledgerNumber, entered, enteredAll}
 use Rattle.model.specs.Trace.{Trace, rackLine}
-use Rattle.model.specs.Record.{answerLine, pairLine, pairLines, endLine, after, changesText, recordText, blankRecord}
+use Rattle.model.specs.Record.{answerLine, pairLine, pairLines, mean, endText, endLine, after, changesText, recordText, blankRecord}
 use Rattle.model.specs.Run.{Ran, rack-length, text-long, space-short, blank, bad-line, bad-size, ran, RunAnswer as AnswerOf}
 use Rattle.model.proofs.Tests.{eq?, le?, true-T, and-intro, and-left, and-right, eqb-yes}
 use Rattle.model.proofs.Chunks.{each-ext, each-none, each-only}
@@ -30,9 +30,9 @@ use Rattle.theory.proofs.ChangeStep.{ledger}
 use Rattle.theory.proofs.OnBytes.{step, call-leaves, pairs-of}
 use Rattle.theory.proofs.LastRack.{last-facts}
 use Rattle.theory.proofs.ListTheorem.{next-ledger, from-valid}
+use Rattle.theory.proofs.Crowding.{crowding}
 use Rattle.text.proofs.Answers.{refused-line}
-use Rattle.record.specs.Line.{answered, pairText, endText}
-use Rattle.record.proofs.Laws.{end-line}
+use Rattle.record.specs.Line.{answered, pairText}
 use Rattle.changes.specs.Sounded.{Sounded}
 use Rattle.changes.proofs.Answered.{sounded-of}
 use Rattle.run.specs.Recording.{pairPart, told}
@@ -109,11 +109,12 @@ module _ (l : Ledger) (bs : List ℕ) (ok : Sounded bs) (F : Facts l bs) where
 
 -- The record of a list of changes, from the bytes of a valid state, with its own ledger.
 ending-by : (s : State) → Valid base s → pairLines s ++ endLine s ≡ endingBy (ledger s) (write s)
-unfolding endingBy
+unfolding endingBy edges links
 ending-by s ok =
     let p : pairLines s ≡ pairsBy (ledger s) (write s) =
     ap pairLines (sym (read-write base s ok)) ∙ pairs-by (ledger s) (write s) (sounded-of (write s) s refl ok) (last-facts s ok) in
-    let e : endLine s ≡ endText (pairsOf (ledger s) (write s)) = end-line s ∙ ap endText (pairs-of s ok) in
+    let e : endLine s ≡ endText (pairsOf (ledger s) (write s)) (mean (links (ledger s)) (s .n)) =
+    ap (λ (k : ℕ). endText k (mean (edges s) (s .n))) (pairs-of s ok) in
     λ i. p i ++ e i
 
 last-by : (s : State) → Valid base s → (cs : List Change) → write (after base s cs) ≡ lastRack (write s) cs
@@ -153,6 +154,7 @@ run-demand t e =
       demand = D;
       left = left;
       facts = subst (Facts book) (sym left) (D .last);
+      crowded = crowding book (lastRack (write (empty (t .n))) (t .changes)) (D .last);
       says =
           ap (λ (x : List ℕ). rackLine (t .n) ++ x) (changes-by (empty (t .n)) ok (t .changes))
           ∙ ap (λ (x : List ℕ). rackLine (t .n) ++ (lines ++ endingBy book x)) (sym left);

@@ -10,11 +10,12 @@ use Rattle.model.specs.State.{base, empty}
 use Rattle.model.specs.Bytes.{rankAt, write}
 use Rattle.model.specs.Change.{Change, Answer}
 use Rattle.model.specs.Calls.{ChangedBytes, changeBytes}
-use Rattle.model.specs.Ledger.{Ledger, ledgerNumber, entered, enteredAll}
+use Rattle.model.specs.Ledger.{Ledger, links, ledgerNumber, entered, enteredAll}
 use Rattle.model.specs.Trace.{Trace, Holds, rackLine}
-use Rattle.model.specs.Record.{answerLine, blankRecord}
+use Rattle.model.specs.Record.{answerLine, mean, endText, blankRecord}
 use Rattle.theory.specs.Demand.{lastRack, isPair, pairsOf, Facts, Demand}
-use Rattle.record.specs.Line.{pairText, endText}
+use Rattle.theory.specs.Crowding.{Crowding}
+use Rattle.record.specs.Line.{pairText}
 
 -- the ledger of a fresh rack of n vertices: no link is there
 unfoldable pub freshLedger : ℕ → Ledger
@@ -39,9 +40,9 @@ changesBy l bs (c ∷ cs) = let d = changeBytes base bs c in answerLine (answerB
 unfoldable pub pairsBy : Ledger → List ℕ → List ℕ
 pairsBy l bs = each (l .n) (λ v. each (l .n) (λ w. elim (isPair l bs v w) [ true ↦ pairText v w (rankAt bs v - 1) | false ↦ [] ]))
 
--- "then the pairs by rising lower board, then the end line", by the ledger and the last rack
+-- "then the pairs by rising lower board, then the end line", by the ledger and the last rack: the mean is that of the ledger's links
 unfoldable pub endingBy : Ledger → List ℕ → List ℕ
-endingBy l bs = pairsBy l bs ++ endText (pairsOf l bs)
+endingBy l bs = pairsBy l bs ++ endText (pairsOf l bs) (mean (links l) (l .n))
 
 -- A run of the trace t that left the rack `last` and the record `text`: from a fresh rack, with a ledger that starts with no link and sees
 -- the changes alone.
@@ -51,6 +52,8 @@ pub record RunDemand (t : Trace) (last text : List ℕ) : Type 0 where
   -- the rack left is the last one of that list, so the facts are of its bytes, with the ledger's links
   pub left : last ≡ lastRack (write (empty (t .n))) (t .changes)
   pub facts : Facts (enteredAll (freshLedger (t .n)) (t .changes)) last
+  -- and what the figures of the mean say of these links
+  pub crowded : Crowding (enteredAll (freshLedger (t .n)) (t .changes))
   -- the record is the one that the ledger asks for, to the byte
   pub says : text
       ≡ rackLine (t .n)

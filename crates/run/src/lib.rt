@@ -10,10 +10,10 @@ ghost use Rattle.model.specs.Bytes.{read, write};
 ghost use Rattle.model.specs.Sound.{sizeGood};
 ghost use Rattle.model.specs.Change.{change as changeOf};
 ghost use Rattle.model.specs.Calls.{sized as sizedOf};
-ghost use Rattle.model.specs.Record.{answerLine, pairLines};
+ghost use Rattle.model.specs.Record.{answerLine, pairLines, endLine};
 ghost use Rattle.model.specs.Run.{Ran, spaceLength};
 ghost use Rattle.text.specs.Writing.{Put};
-ghost use Rattle.record.specs.Line.{answerRoom, pairRoom};
+ghost use Rattle.record.specs.Line.{answerRoom, pairRoom, endRoom};
 ghost use Rattle.changes.specs.Sounded.{Sounded, brought};
 ghost use Rattle.run.specs.Recording.{endingRoom, endingText, pairPart, Ready, Played, Recordable, Written, Took, told, Shown};
 
@@ -64,6 +64,18 @@ fn put_pairs(rack: &[u8], out: &mut [u8]) -> usize
     at
 }
 
+// "The end line becomes `(end (pairs P) (mean Q R))`, where twice the links equals Q times n plus R and R is below n."
+fn put_last(rack: &[u8], out: &mut [u8]) -> usize
+    requires { ⌜ Sounded (now rack) ⌝ }
+    requires { ⌜ endRoom ≤ length (now out) ⌝ }
+    ensures { λ r. ⌜ Put (endLine (read (now (rack .entry)))) (now (out .entry)) (now (out .exit)) r ⌝ }
+{
+    let pairs = changes::pairs(rack);
+    let n = layout::size(rack) as u32;
+    let twice = 2 * layout::edges(rack) as u32;
+    record::put_end(out, pairs, twice / n, twice % n)
+}
+
 // "then the pairs by rising lower board, then the end line"
 fn put_ending(rack: &[u8], out: &mut [u8]) -> usize
     requires { ⌜ Sounded (now rack) ⌝ }
@@ -71,8 +83,7 @@ fn put_ending(rack: &[u8], out: &mut [u8]) -> usize
     ensures { λ r. ⌜ Put (endingText (read (now (rack .entry)))) (now (out .entry)) (now (out .exit)) r ⌝ }
 {
     let at = put_pairs(rack, out);
-    let pairs = changes::pairs(rack);
-    let k = record::put_end(&mut out[at..], pairs);
+    let k = put_last(rack, &mut out[at..]);
     at + k
 }
 

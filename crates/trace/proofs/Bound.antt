@@ -1,6 +1,6 @@
 -- The record fits its space: a trace text of at most 16,384 bytes has a record of at most 65,536. A change's line has at least 20 bytes, and
 -- the line that answers it at most 64 whatever 32-bit figures it has, which makes at most 52,428; 256 pairs' lines of 50 bytes, twice as
--- many as there can be, and the end line make at most 12,825 more. Assumes nothing.
+-- many as there can be, and the end line make at most 12,854 more. Assumes nothing.
 use Prim.Native.Nat.{ℕ, _+_, _*_, _-_, _≤_, _<_}
 use mathlib.Core.Bool.{Bool}
 use mathlib.Core.List.{List, [], _∷_}
@@ -9,15 +9,17 @@ use native.Mathlib.Nat.{mul-suc}
 use lib.Dec.{T, ltb}
 use lib.ListN.{length, length-append}
 use Rattle.model.specs.Counting.{listed}
-use Rattle.model.specs.State.{Rules, State, pairs, empty}
+use Rattle.model.specs.State.{Rules, State, edges, pairs, empty}
 use Rattle.model.specs.Text.{bytes, largest}
 use Rattle.model.specs.Change.{Change, change}
 use Rattle.model.specs.Trace.{Trace, traceText, rackLine, changeLine}
-use Rattle.model.specs.Record.{answerLine, pairLine, endLine, pairLines, changesText, recordText}
+use Rattle.model.specs.Record.{answerLine, pairLine, Mean, mean, endText, endLine, pairLines, changesText, recordText}
 use Rattle.model.specs.Run.{longest, spaceLength}
 use Rattle.model.proofs.Counting.{count-bound}
 use Rattle.model.proofs.Lists.{listed-length, listed-all}
-use Rattle.text.proofs.Lengths.{one-most, three-most}
+use Rattle.model.proofs.Limits.{edges-few}
+use Rattle.model.proofs.Mean.{mean-most}
+use Rattle.text.proofs.Lengths.{three-most}
 use Rattle.text.proofs.Answers.{Figures, answer-most}
 use Rattle.text.proofs.Texts.{texts-least, texts-most}
 use Rattle.trace.proofs.Whole.{change-least}
@@ -25,7 +27,7 @@ use Rattle.trace.proofs.Whole.{change-least}
 -- The space that a run needs.
 
 -- line 1, 64 bytes for each change, 50 for each vertex, and the end line
-pub space-enough : (t : Trace) → length (traceText t) ≤ longest → length (rackLine (t .n)) + 64 * length (t .changes) + 50 * 256 + 25 ≤ spaceLength
+pub space-enough : (t : Trace) → length (traceText t) ≤ longest → length (rackLine (t .n)) + 64 * length (t .changes) + 50 * 256 + 54 ≤ spaceLength
 unfolding traceText
 space-enough t short = omega (arith, simp length-append at short, texts-least changeLine 20 change-least (t .changes))
 
@@ -58,11 +60,18 @@ pairs-most s h =
       h .few,
     )
 
-pub end-most : (s : State) → Small s → length (endLine s) ≤ 25
-unfolding endLine pairs
+pub end-most : (s : State) → Small s → length (endLine s) ≤ 54
+unfolding endText pairs
 end-most s h =
-    let c = count-bound (λ (v : ℕ). ltb v (s .mate v)) (s .n) in
-    omega (arith, one-most (bytes "(end (pairs ") (pairs s) (bytes "))\n") (omega (arith, h .few)))
+    let m : Mean = mean (edges s) (s .n) in
+    let p : pairs s ≤ largest = omega (arith, h .few, count-bound (λ (v : ℕ). ltb v (s .mate v)) (s .n)) in
+    let q = mean-most (edges s) (s .n) in
+    let e = edges-few s (h .few) in
+    omega (
+      arith,
+      three-most (bytes "(end (pairs ") (pairs s) (bytes ") (mean ") (m .whole) (bytes " ") (m .rest) (bytes "))\n")
+          p (omega (arith, q .0, e)) (omega (arith, q .1, e)),
+    )
 
 -- The whole.
 
@@ -73,7 +82,7 @@ pub record Bounded (R : Rules) (Good : State → Type 0) : Type 0 where
   pub small : (s : State) → Good s → Small s
 
 module _ (R : Rules) (Good : State → Type 0) (bounded : Bounded R Good) where
-  pub changes-most : (s : State) (cs : List Change) → Good s → length (changesText R s cs) ≤ 64 * length cs + 50 * 256 + 25
+  pub changes-most : (s : State) (cs : List Change) → Good s → length (changesText R s cs) ≤ 64 * length cs + 50 * 256 + 54
   unfolding changesText
   changes-most s [] g =
       let h = bounded .small s g in

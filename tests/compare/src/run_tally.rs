@@ -22,6 +22,10 @@ pub struct Tally {
     /// board came to.
     pairs: Seen<u32>,
     tops: Seen<i32>,
+    /// Means of end lines by the digits of their two figures, and the largest
+    /// of the first.
+    means: Seen<(u32, u32)>,
+    crowded: u32,
     /// Lines of texts by the number of their words, and words by their digits.
     words: Seen<usize>,
     digits: Seen<u32>,
@@ -41,6 +45,8 @@ impl Default for Tally {
             refused: Seen::of("number", 8..=12),
             pairs: Seen::of("level", 0..=3),
             tops: Seen::of("highest level", 0..=3),
+            means: Seen::of("digits", [(1, 1), (1, 2), (1, 3), (2, 1), (2, 2)]),
+            crowded: 0,
             words: Seen::of("lines by their words", 0..=128),
             digits: Seen::of("words by their digits", 1..=10),
             most: [0; 3],
@@ -88,6 +94,9 @@ impl Tally {
             self.refused.note(figures[0]);
         } else if line.starts_with("(pair") {
             self.pairs.note(figures[2]);
+        } else if let [_, whole, rest] = figures[..] {
+            self.means.note((digits(whole), digits(rest)));
+            self.crowded = self.crowded.max(whole);
         }
     }
 
@@ -100,7 +109,7 @@ impl Tally {
         for step in trace.steps {
             self.words.note(step.words.len());
             for word in step.words {
-                self.digits.note(1 + word.checked_ilog10().unwrap_or(0));
+                self.digits.note(digits(word));
             }
         }
     }
@@ -116,6 +125,10 @@ impl Tally {
             "most draws of a change {draws}, falls {falls}, pairs {pairs}; longest record {} bytes",
             self.longest
         );
+        println!(
+            "most links a board {}; means by {}",
+            self.crowded, self.means
+        );
         println!("{}", self.digits);
     }
 
@@ -128,6 +141,8 @@ impl Tally {
         let of_pairs = |why| format!("pairs at the end: {why}");
         self.pairs.all_came().map_err(of_pairs)?;
         self.tops.all_came()?;
+        let of_means = |why| format!("means: {why}");
+        self.means.all_came().map_err(of_means)?;
         self.words.all_came()?;
         self.digits.all_came()?;
         if self.blank == 0 {
@@ -138,6 +153,11 @@ impl Tally {
             false => Err("never met: draws, falls and pairs of two digits".into()),
         }
     }
+}
+
+/// How many digits a figure has.
+fn digits(figure: u32) -> u32 {
+    1 + figure.checked_ilog10().unwrap_or(0)
 }
 
 /// The numbers that a run meets, each looked at by itself.

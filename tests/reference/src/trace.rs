@@ -21,7 +21,7 @@ pub struct Outcome {
 }
 
 /// The record of a text of no bytes, by which "no rack was set": "the one line
-/// `(end (pairs 0))`" (document 02, W-201).
+/// `(end (pairs 0))`" (document 02, W-201); it "has no mean" (W-202).
 const BLANK: &str = "(end (pairs 0))\n";
 
 /// Runs a trace text. Turned back, it writes nothing lent; otherwise the rack
@@ -88,8 +88,21 @@ fn play(trace: &Trace) -> (Rack, String) {
     for (a, b) in rack.pairs() {
         lines += &format!("(pair ({a} {b}) (level {}))\n", rack.level[a]);
     }
-    lines += &format!("(end (pairs {}))\n", rack.pairs().len());
+    let (whole, rest) = mean(&rack);
+    let pairs = rack.pairs().len();
+    lines += &format!("(end (pairs {pairs}) (mean {whole} {rest}))\n");
     (rack, lines)
+}
+
+/// "twice the links equals Q times n plus R and R is below n" (document 02,
+/// W-202): n is taken away as often as it goes.
+fn mean(rack: &Rack) -> (usize, usize) {
+    let (mut whole, mut rest) = (0, 2 * rack.link_number());
+    while rest >= rack.n {
+        whole += 1;
+        rest -= rack.n;
+    }
+    (whole, rest)
 }
 
 /// "An accepted change has the line `(done (draws D) (falls F) (pairs P))` with

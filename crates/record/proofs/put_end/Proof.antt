@@ -1,33 +1,65 @@
--- `record::put_end` meets its contract. A line of one figure.
--- Assumes nothing.
+-- `record::put_end` meets its contract. Four writers, one straight after the other. Assumes nothing.
+use mathlib.Core.Path.{refl}
 use native.Mathlib.Omega.{arith}
-use native.Mathlib.Nat.{le-trans}
-use borrow.Author.Needs.{needs}
-use Rattle.record.proofs.Laws.{one-room, put-one-as}
+use native.Mathlib.Nat.{le-refl, le-trans}
+use Rattle.model.specs.Text.{bytes}
+use Rattle.text.proofs.Writers.{Chain, first, next, kept, counted, starts, room}
+use Rattle.text.proofs.Over.{put-as}
+use Rattle.record.proofs.Laws.{piece-most, piece-leaves, piece-room, pieces-written, end-parts}
 use Rattle.record.proofs.put_end.Statement.{statement}
 use Rattle.record.proofs.put_end.Tie as tie
 
-slice-aggregate-put-one : tie.Need-slice-aggregate-put-one
-slice-aggregate-put-one c = search needs
+-- what is written after each writer, and how much may still be
+abbrev one : tie.After-put-piece → Chain 32
+one c =
+    let s = c .before .before .before .before in
+    first (c .put-piece .ensures) (piece-leaves _ _ 32 _ (omega arith) (s .pre)) (omega (arith, s .good .0 .0))
 
-slice-aggregate-put-one-2 : tie.Need-slice-aggregate-put-one-2
-slice-aggregate-put-one-2 c = search needs
+abbrev two : tie.After-put-piece2 → Chain 14
+two c = next (one (c .before .before .before .before .before)) (c .put-piece2 .ensures) (piece-leaves _ _ 14 32 (omega arith) (omega arith))
 
-put-one-requires : tie.Need-put-one-requires
-put-one-requires c κs = le-trans (one-room _ _ _ (omega arith)) (omega (arith, c .before .before .before .before .pre))
+abbrev three : tie.After-put-piece3 → Chain 3
+three c = next (two (c .before .before .before .before .before)) (c .put-piece3 .ensures) (piece-leaves _ _ 3 14 (omega arith) (omega arith))
 
-same-length : tie.Need-same-length
-same-length c = search needs
+abbrev all : tie.After-put-literal → Chain 0
+all c = next (three (c .before .before .before .before .before)) (c .put-literal .ensures) (omega arith)
 
 returns : tie.Need-returns
-returns c = put-one-as _ _ _ _ (omega arith) (c .before .before .put-one .ensures)
+returns c =
+    let d = c .before .before .before .before .before .before .before .before .before .before .before .before in
+    let a = d .before .before .before .before .before .before .before .before .before .args in
+    put-as _ _ (end-parts _ _ _)
+    (pieces-written (bytes "(end (pairs ") _ (bytes ") (mean ") _ (bytes " ") _ (bytes "))\n") (all (c .before .before) .put)
+    (a .pairs) (a .whole) (a .rest) (omega arith) (omega arith) (omega arith))
 
 pub put-end-spec : {M : Type 1} → statement M
 put-end-spec =
     tie.close
     (tie.spec
-    slice-aggregate-put-one
-    slice-aggregate-put-one-2
-    put-one-requires
-    same-length
+    -- `(end (pairs ` and the pairs
+    (λ c. refl)
+    (λ c κs. le-trans (piece-most _ _ (omega arith)) (omega (arith, c .before .before .before .pre)))
+    -- `) (mean ` and the whole links
+    (λ c. starts (one (c .before .before)))
+    (λ c. starts (one (c .before .before)))
+    (λ c. le-refl _)
+    (λ c. refl)
+    (λ c κs. piece-room (one (c .before .before .before .before)) _ _ (omega arith) (omega arith))
+    (λ c. counted (two (c .before .before)))
+    -- the space and the rest
+    (λ c. starts (two (c .before .before)))
+    (λ c. starts (two (c .before .before)))
+    (λ c. le-refl _)
+    (λ c. refl)
+    (λ c κs. piece-room (two (c .before .before .before .before)) _ _ (omega arith) (omega arith))
+    (λ c. counted (three (c .before .before)))
+    -- `))`
+    (λ c. starts (three (c .before .before)))
+    (λ c. starts (three (c .before .before)))
+    (λ c. le-refl _)
+    (λ c. refl)
+    (λ c κs. room (three (c .before .before .before .before)) _ (omega arith))
+    (λ c. counted (all (c .before .before)))
+    -- the whole
+    (λ c. kept (all (c .before .before)))
     returns)

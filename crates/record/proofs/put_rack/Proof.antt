@@ -1,34 +1,40 @@
--- `record::put_rack` meets its contract. A line of one figure.
--- Assumes nothing.
+-- `record::put_rack` meets its contract. Two writers, one straight after the other. Assumes nothing.
+use mathlib.Core.Path.{refl}
 use native.Mathlib.Omega.{arith}
-use native.Mathlib.Nat.{le-trans}
-use borrow.Author.Needs.{needs}
-use Rattle.text.proofs.Over.{put-as}
-use Rattle.record.proofs.Laws.{one-room, rack-parts, put-one-as}
+use native.Mathlib.Nat.{le-refl, le-trans}
+use Rattle.text.proofs.Writers.{Chain, first, next, kept, counted, starts, room}
+use Rattle.record.proofs.Laws.{piece-most, piece-leaves, rack-written}
 use Rattle.record.proofs.put_rack.Statement.{statement}
 use Rattle.record.proofs.put_rack.Tie as tie
 
-slice-aggregate-put-one : tie.Need-slice-aggregate-put-one
-slice-aggregate-put-one c = search needs
+-- what is written after each writer, and how much may still be
+abbrev one : tie.After-put-piece → Chain 3
+one c =
+    let s = c .before .before .before .before in
+    first (c .put-piece .ensures) (piece-leaves _ _ 3 _ (omega arith) (s .pre)) (omega (arith, s .good .0 .0))
 
-slice-aggregate-put-one-2 : tie.Need-slice-aggregate-put-one-2
-slice-aggregate-put-one-2 c = search needs
-
-put-one-requires : tie.Need-put-one-requires
-put-one-requires c κs = le-trans (one-room _ _ _ (omega arith)) (omega (arith, c .before .before .before .before .pre))
-
-same-length : tie.Need-same-length
-same-length c = search needs
+abbrev all : tie.After-put-literal → Chain 0
+all c = next (one (c .before .before .before .before .before)) (c .put-literal .ensures) (omega arith)
 
 returns : tie.Need-returns
-returns c = put-as _ _ (rack-parts _) (put-one-as _ _ _ _ (omega arith) (c .before .before .put-one .ensures))
+returns c =
+    let a = c .before .before .before .before .before .before .before .before .before .before .before .args in
+    rack-written _ (all (c .before .before) .put) (a .n) (omega arith)
 
 pub put-rack-spec : {M : Type 1} → statement M
 put-rack-spec =
     tie.close
     (tie.spec
-    slice-aggregate-put-one
-    slice-aggregate-put-one-2
-    put-one-requires
-    same-length
+    -- `(rack (boards ` and the size
+    (λ c. refl)
+    (λ c κs. le-trans (piece-most _ _ (omega arith)) (omega (arith, c .before .before .before .pre)))
+    -- `))`
+    (λ c. starts (one (c .before .before)))
+    (λ c. starts (one (c .before .before)))
+    (λ c. le-refl _)
+    (λ c. refl)
+    (λ c κs. room (one (c .before .before .before .before)) _ (omega arith))
+    (λ c. counted (all (c .before .before)))
+    -- the whole
+    (λ c. kept (all (c .before .before)))
     returns)

@@ -3,6 +3,7 @@
 //! so that any of them can be made again.
 
 mod blank;
+mod crowded;
 mod damages;
 mod edits;
 mod fixed;
@@ -76,6 +77,7 @@ impl Family {
 pub fn families() -> Vec<Family> {
     let mut all = lengths::families();
     all.extend(grown::families());
+    all.extend(crowded::families());
     all.extend(damages::families());
     all.extend(lines::families());
     all.extend(mutations::families());

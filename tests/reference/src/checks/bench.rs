@@ -1,5 +1,5 @@
-//! The worked example of the paper and its bench cases P1 to P13, P12 as document
-//! 02 changes it.
+//! The worked example of the paper and its bench cases P1 to P13, with the end line
+//! and P12 as document 02 changes them.
 
 use super::{holds, same, Tally, Verdict};
 use crate::{audit, change, level, linked, make, mate, program, run, Answer};
@@ -22,7 +22,7 @@ const EXAMPLE_RECORD: &str = "\
 (done (draws 0) (falls 2) (pairs 1))
 (refused 10)
 (pair (2 3) (level 0))
-(end (pairs 1))
+(end (pairs 1) (mean 1 0))
 ";
 
 pub fn worked_example(_: &mut Tally) -> Verdict {
@@ -256,7 +256,7 @@ fn p13() -> Result<u64, String> {
 const LAST_LINES: &str = "\
 (done (draws 1) (falls 0) (pairs 1))
 (pair (0 1) (level 0))
-(end (pairs 1))
+(end (pairs 1) (mean 0 2))
 ";
 
 /// A text that fits the grammar and is this long.

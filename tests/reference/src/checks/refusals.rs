@@ -177,7 +177,7 @@ pub fn runs_turned_back(_: &mut Tally) -> Verdict {
 }
 
 /// The record of the only trace that is run, and that of the text of no bytes.
-const RECORD: &[u8] = b"(rack (boards 4))\n(refused 8)\n(end (pairs 0))\n";
+const RECORD: &[u8] = b"(rack (boards 4))\n(refused 8)\n(end (pairs 0) (mean 0 0))\n";
 const BLANK: &[u8] = b"(end (pairs 0))\n";
 
 fn first_number(rack: usize, text: u32, record: usize) -> u32 {

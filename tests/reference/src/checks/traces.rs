@@ -4,6 +4,7 @@
 use super::random::Random;
 use super::texts::first_bad_line;
 use super::{came, holds, same, Tally, Verdict};
+use crate::image::owns;
 use crate::{change, level, make, mate, run, Outcome};
 use crate::{RACK_BYTES, RECORD_SPACE, TEXT_LIMIT};
 
@@ -112,11 +113,13 @@ fn told(rack: &mut [u8], line: &str, tally: &mut Tally) -> String {
     }
 }
 
-/// The pair lines and the end line.
+/// The pair lines and the end line. Twice the links are all boards' neighbours
+/// together.
 fn ending(rack: &[u8], n: u32) -> String {
     let mut lines = String::new();
-    let mut pairs = 0;
+    let (mut pairs, mut neighbours) = (0, 0);
     for a in 0..n {
+        neighbours += (0..n).filter(|&b| joined(rack, a, b)).count() as u32;
         let (_, b) = mate(rack, a);
         if b < n && a < b {
             let (_, at) = level(rack, a);
@@ -124,7 +127,13 @@ fn ending(rack: &[u8], n: u32) -> String {
             pairs += 1;
         }
     }
-    lines + &format!("(end (pairs {pairs}))\n")
+    let (whole, rest) = (neighbours / n, neighbours % n);
+    lines + &format!("(end (pairs {pairs}) (mean {whole} {rest}))\n")
+}
+
+fn joined(rack: &[u8], a: u32, b: u32) -> bool {
+    let (a, b) = (a as usize, b as usize);
+    owns(rack, a, b) || owns(rack, b, a)
 }
 
 fn random_text(random: &mut Random) -> Vec<u8> {
