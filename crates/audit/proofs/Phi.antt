@@ -9,7 +9,7 @@ use native.Mathlib.Omega.{arith}
 use lib.Dec.{T, leb, ltb, le→leb}
 use lib.ListN.{length, getD, replicate, length-replicate, getD-replicate}
 use Rattle.model.specs.Counting.{sum, bit, count}
-use Rattle.model.specs.State.{edge, near, below, phi, edges}
+use Rattle.model.specs.State.{edge, near, below, phi, edgeCount, edges}
 use Rattle.model.specs.Bytes.{sizeAt, rankAt, ownsAt, read}
 use Rattle.model.proofs.Tests.{le?, eq?, leb-yes, leb-no}
 use Rattle.model.proofs.Sums.{sum-swap, double-count}
@@ -191,7 +191,7 @@ module _ (bs : List ℕ)
   pub edges-owned : edges (read bs) ≡ sum (degreeAt bs) (sizeAt bs)
   unfolding edges degreeAt
   edges-owned =
-      ap (λ (m : ℕ). sum (λ v. count (λ w. ltb v w && edge (read bs) v w) m) m) (read-size bs)
+      ap (λ (m : ℕ). edgeCount m (edge (read bs))) (read-size bs)
       ∙ sum-eq _ _ (sizeAt bs) (λ v hv. count-ext _ _ (sizeAt bs) (λ w hw. ap (λ (b : Bool). ltb v w && b) (read-edge v w hv hw)))
       ∙ double-count (ownsAt bs) (sizeAt bs) (λ v w hv hw. once v hv w hw)
       ∙ sum-eq _ _ (sizeAt bs) (λ v hv. sym (degree-inside v hv))

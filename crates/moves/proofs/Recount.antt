@@ -5,9 +5,9 @@ use mathlib.Core.Logic.{_≢_, inl, inr}
 use mathlib.Core.Bool.{Bool, _&&_}
 use Prim.Native.Nat.{ℕ, suc, _+_, _≤_, _<_}
 use native.Mathlib.Omega.{arith}
-use lib.Dec.{T, leb, ltb, eqb, eqb→eq}
-use Rattle.model.specs.Counting.{sum, bit, count}
-use Rattle.model.specs.State.{State, edge, near, below, phi, edges}
+use lib.Dec.{T, leb, eqb, eqb→eq}
+use Rattle.model.specs.Counting.{bit, count}
+use Rattle.model.specs.State.{State, edge, near, below, phi, edgeCount, edges}
 use Rattle.model.proofs.Tests.{eq?, le?, holds?, bool-ext, true-T, eqb-yes, and-intro, and-left, and-right}
 use Rattle.model.proofs.Counting.{bit-yes, bit-no, count-at, count-some, count-miss}
 use Rattle.model.proofs.Prefix.{count-ext}
@@ -33,8 +33,7 @@ same-phi s t e f g v j =
 
 pub same-edges : (s t : State) → s .n ≡ t .n → ((v w : ℕ) → edge s v w ≡ edge t v w) → edges s ≡ edges t
 unfolding edges
-same-edges s t e f =
-    ap₂ (λ (n : ℕ) (there : ℕ → ℕ → Bool). sum (λ v. count (λ w. ltb v w && there v w) n) n) e (fun-ext (λ v. fun-ext (λ w. f v w)))
+same-edges s t e f = ap₂ (λ (n : ℕ) (there : ℕ → ℕ → Bool). edgeCount n there) e (fun-ext (λ v. fun-ext (λ w. f v w)))
 
 -- A vertex u goes to rank x.
 module _ (s : State) (u x : ℕ) where

@@ -22,10 +22,11 @@ endRoom = 54
 abbrev pub badRoom : ℕ
 badRoom = 28
 
--- a fixed text and a figure after it, of which lines are made; a line of one figure, and one of three
+-- a piece of a line: a fixed text, and a figure after it
 unfoldable pub piece : List ℕ → ℕ → List ℕ
 piece p x = p ++ decimal x
 
+-- a line of one figure, and one of three
 unfoldable pub oneText : List ℕ → ℕ → List ℕ → List ℕ
 oneText p x e = p ++ (decimal x ++ e)
 
