@@ -5,23 +5,6 @@ use Rattle.model.specs.Text.{bytes, decimal}
 use Rattle.model.specs.Change.{Answer}
 use Rattle.model.specs.Record.{Mean}
 
--- how many bytes a printer is lent at least: no first line, answer's line, pair's line, end line and line of a
--- run turned back, of figures of 32 bits, is longer
-abbrev pub rackRoom : ℕ
-rackRoom = 27
-
-abbrev pub answerRoom : ℕ
-answerRoom = 64
-
-abbrev pub pairRoom : ℕ
-pairRoom = 50
-
-abbrev pub endRoom : ℕ
-endRoom = 54
-
-abbrev pub badRoom : ℕ
-badRoom = 28
-
 -- a piece of a line: a fixed text, and a figure after it
 unfoldable pub piece : List ℕ → ℕ → List ℕ
 piece p x = p ++ decimal x

@@ -6,8 +6,8 @@ ghost use Rattle.model.specs.Trace.{rackLine};
 ghost use Rattle.model.specs.Record.{answerLine, endText, blankRecord};
 ghost use Rattle.model.specs.Run.{badLine};
 ghost use Rattle.text.specs.Writing.{Put};
-ghost use Rattle.record.specs.Line.{rackRoom, answerRoom, pairRoom, endRoom, badRoom, piece, answered, pairText, meanOf};
-ghost use Rattle.record.specs.Line.{doneText, refusedText};
+ghost use Rattle.text.specs.Rooms.{rackRoom, answerRoom, pairRoom, endRoom, badRoom};
+ghost use Rattle.record.specs.Line.{piece, answered, doneText, refusedText, pairText, meanOf};
 
 // Writes the fixed text p and a figure after it.
 fn put_piece(out: &mut [u8], p: &[u8], x: u32) -> usize

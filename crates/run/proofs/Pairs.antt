@@ -19,15 +19,16 @@ use Rattle.model.proofs.Lists.{listed-yes, listed-no}
 use Rattle.moves.specs.Proper.{Held}
 use Rattle.moves.proofs.Held.{held-rank, held-mate}
 use Rattle.text.specs.Writing.{Put}
+use Rattle.text.specs.Rooms.{pairRoom, endRoom, endingRoom}
 use Rattle.text.proofs.Texts.{texts-snoc}
 use Rattle.text.proofs.Over.{part, back, put-as, put-none, put-then, put-kept}
-use Rattle.record.specs.Line.{pairRoom, endRoom, pairText}
+use Rattle.record.specs.Line.{pairText}
 use Rattle.record.proofs.Laws.{pair-line}
 use Rattle.trace.proofs.Bound.{pair-most}
 use Rattle.trace.proofs.RecordFits.{valid-small}
 use Rattle.changes.specs.Sounded.{Sounded}
 use Rattle.changes.proofs.Wholes.{sounded-held}
-use Rattle.run.specs.Recording.{endingRoom, pairPart}
+use Rattle.run.specs.Recording.{pairPart}
 
 -- a text that stands there by a test
 pub shown : (b : Bool) (x : List ℕ) → T b → elim b [ true ↦ x | false ↦ [] ] ≡ x

@@ -12,21 +12,22 @@ use Rattle.model.specs.Bytes.{read, write}
 use Rattle.model.specs.Valid.{Valid}
 use Rattle.model.specs.Text.{texts}
 use Rattle.model.specs.Change.{Change, Answer, change}
-use Rattle.model.specs.Record.{pairLines, endLine, answerLine, after, changesText}
+use Rattle.model.specs.Record.{answerLine, after, changesText}
 use Rattle.model.proofs.Reading.{read-write}
 use Rattle.theory.proofs.OnBytes.{step}
 use Rattle.text.specs.Writing.{Put}
+use Rattle.text.specs.Rooms.{answerRoom, endingRoom}
 use Rattle.text.proofs.Over.{part, back, put-as, put-none, put-then, put-length}
 use Rattle.text.proofs.Answers.{answer-most}
-use Rattle.record.specs.Line.{answerRoom, answered}
+use Rattle.record.specs.Line.{answered}
 use Rattle.trace.specs.Check.{headOf, wordsOf, HeadAt, Kept}
 use Rattle.trace.specs.declared.Head.{Head}
-use Rattle.trace.proofs.Bound.{pairs-most, end-most}
+use Rattle.trace.proofs.Bound.{ending-most}
 use Rattle.trace.proofs.RecordFits.{valid-small, valid-figures}
 use Rattle.changes.specs.declared.Answer.{Answer as Answered}
 use Rattle.changes.specs.Sounded.{Sounded, Answers, brought}
 use Rattle.changes.proofs.Answered.{sounded-of}
-use Rattle.run.specs.Recording.{endingRoom, endingText, Ready, Played}
+use Rattle.run.specs.Recording.{endingText, Ready, Played}
 
 -- bytes that write a valid state are sound, and reading them gives it again
 pub sounded-read : (bs : List ℕ) (s : State) → bs ≡ write s → Valid base s → Sounded bs × (read bs ≡ s)
@@ -38,11 +39,9 @@ pub line-as : {r : Answered} {x : Answer} {old new : List ℕ} {k : ℕ} → Ans
 line-as a w = put-as _ _ (λ i. answerLine (answered (a .number i) (a .draws i) (a .falls i) (a .pairs i))) w
 
 -- the lines after those of the changes have room
-ending-most : (s : State) → Valid base s → length (endingText s) ≤ endingRoom
+ending-fits : (s : State) → Valid base s → length (endingText s) ≤ endingRoom
 unfolding endingText
-ending-most s ok =
-    let h = valid-small s ok in
-    omega (arith, length-append (pairLines s) (endLine s), pairs-most s h, end-most s h)
+ending-fits s ok = ending-most s (valid-small s ok)
 
 -- `changes` are kept, n of them; `rest` of them, from the k-th head and the w-th word on, are still to be made
 pub record Going (heads words : List ℕ) (n : ℕ) (rack₀ rack out₀ out : List ℕ) (k w at : ℕ) : Type 0 where
@@ -217,7 +216,7 @@ module _ {heads words rack₀ rack out₀ out : List ℕ} {n k w at : ℕ} (g : 
   -- the lines after those of the changes were written
   module _ {last : List ℕ} {m : ℕ} (p : Put (endingText (read rack)) (part at out) last m) where
     pub end-within : at + m ≤ length out₀
-    end-within = omega (arith, g .room, p .count, ending-most (read rack) (g .sounded .valid))
+    end-within = omega (arith, g .room, p .count, ending-fits (read rack) (g .sounded .valid))
 
     pub going-end : n ≤ k → Played heads words n rack₀ rack out₀ (back at out last) (at + m)
     unfolding after changesText endingText

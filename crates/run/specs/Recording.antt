@@ -6,19 +6,15 @@ use Prim.Native.Nat.{ℕ, _+_, _*_, _≤_}
 use lib.Dec.{ltb}
 use lib.ListN.{length}
 use Rattle.model.specs.State.{State, base, empty}
-use Rattle.model.specs.Bytes.{most, read, write}
+use Rattle.model.specs.Bytes.{read, write}
 use Rattle.model.specs.Change.{Change}
 use Rattle.model.specs.Trace.{rackLine}
 use Rattle.model.specs.Record.{pairLine, pairLines, endLine, after, changesText, recordText}
 use Rattle.model.specs.Run.{turnedBack, RunAnswer as AnswerOf, Ran, output}
 use Rattle.text.specs.Writing.{Put}
-use Rattle.record.specs.Line.{answerRoom, pairRoom, endRoom}
+use Rattle.text.specs.Rooms.{answerRoom, endingRoom}
 use Rattle.trace.specs.Check.{Kept}
 use Rattle.run.specs.declared.RunAnswer.{RunAnswer}
-
--- the room that the lines after those of the changes need: a pair's line for each vertex, and the end line
-abbrev pub endingRoom : ℕ
-endingRoom = pairRoom * most + endRoom
 
 -- v's line among those of the pairs, if v is the lower vertex of one
 unfoldable pub pairPart : State → ℕ → List ℕ

@@ -13,9 +13,9 @@ ghost use Rattle.model.specs.Calls.{sized as sizedOf};
 ghost use Rattle.model.specs.Record.{answerLine, pairLines, endLine};
 ghost use Rattle.model.specs.Run.{Ran, spaceLength};
 ghost use Rattle.text.specs.Writing.{Put};
-ghost use Rattle.record.specs.Line.{answerRoom, pairRoom, endRoom};
+ghost use Rattle.text.specs.Rooms.{answerRoom, pairRoom, endRoom, endingRoom};
 ghost use Rattle.changes.specs.Sounded.{Sounded, brought};
-ghost use Rattle.run.specs.Recording.{endingRoom, endingText, pairPart, Ready, Played, Recordable, Written, Took, told, Shown};
+ghost use Rattle.run.specs.Recording.{endingText, pairPart, Ready, Played, Recordable, Written, Took, told, Shown};
 
 // The most bytes of a trace text.
 pub const TEXT_LIMIT: usize = 16384;

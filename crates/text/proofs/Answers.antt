@@ -9,6 +9,7 @@ use Rattle.model.specs.Text.{bytes, decimal, largest}
 use Rattle.model.specs.Change.{Answer}
 use Rattle.model.specs.Record.{answerLine}
 use Rattle.model.proofs.Tests.{eq?, eqb-yes, eqb-no}
+use Rattle.text.specs.Rooms.{answerRoom}
 use Rattle.text.proofs.Lengths.{one-most, three-most}
 
 pub done-line : (x : Answer) → x .number ≡ 0
@@ -28,8 +29,8 @@ pub record Figures (x : Answer) : Type 0 where
   pub falls-fit : x .falls ≤ largest
   pub pairs-fit : x .pairs ≤ largest
 
--- whatever they are, its line has at most 64 bytes
-pub answer-most : (x : Answer) → Figures x → length (answerLine x) ≤ 64
+-- whatever they are, there is room for its line
+pub answer-most : (x : Answer) → Figures x → length (answerLine x) ≤ answerRoom
 answer-most x h = elim (eq? (x .number) 0) [
   | inl p ↦
       let done = bytes "(done (draws " in

@@ -1,5 +1,6 @@
--- What stands at a position of a text, and what a writer wrote: the definitions that the contracts of the text crates cite.
+-- What stands at a position of a text, what a writer wrote, and how much room it needs: the definitions that the contracts of the text crates cite.
 pub mod Number
 pub mod Literal
 pub mod Reading
 pub mod Writing
+pub mod Rooms

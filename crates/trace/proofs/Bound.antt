@@ -3,13 +3,14 @@
 -- many as there can be, and the end line make at most 12,854 more. Assumes nothing.
 use Prim.Native.Nat.{ℕ, _+_, _*_, _-_, _≤_, _<_}
 use mathlib.Core.Bool.{Bool}
-use mathlib.Core.List.{List, [], _∷_}
+use mathlib.Core.List.{List, [], _∷_, _++_}
 use native.Mathlib.Omega.{arith}
 use native.Mathlib.Nat.{mul-suc}
 use lib.Dec.{T, ltb}
 use lib.ListN.{length, length-append}
 use Rattle.model.specs.Counting.{listed}
 use Rattle.model.specs.State.{Rules, State, edges, pairs, empty}
+use Rattle.model.specs.Bytes.{most}
 use Rattle.model.specs.Text.{bytes, largest}
 use Rattle.model.specs.Change.{Change, change}
 use Rattle.model.specs.Trace.{Trace, traceText, rackLine, changeLine}
@@ -19,6 +20,7 @@ use Rattle.model.proofs.Counting.{count-bound}
 use Rattle.model.proofs.Lists.{listed-length, listed-all}
 use Rattle.model.proofs.Limits.{edges-few}
 use Rattle.model.proofs.Mean.{mean-most}
+use Rattle.text.specs.Rooms.{answerRoom, pairRoom, endRoom, endingRoom}
 use Rattle.text.proofs.Lengths.{three-most}
 use Rattle.text.proofs.Answers.{Figures, answer-most}
 use Rattle.text.proofs.Texts.{texts-least, texts-most}
@@ -26,8 +28,8 @@ use Rattle.trace.proofs.Whole.{change-least}
 
 -- The space that a run needs.
 
--- line 1, 64 bytes for each change, 50 for each vertex, and the end line
-pub space-enough : (t : Trace) → length (traceText t) ≤ longest → length (rackLine (t .n)) + 64 * length (t .changes) + 50 * 256 + 54 ≤ spaceLength
+-- line 1, the line of each change, and those after them
+pub space-enough : (t : Trace) → length (traceText t) ≤ longest → length (rackLine (t .n)) + answerRoom * length (t .changes) + endingRoom ≤ spaceLength
 unfolding traceText
 space-enough t short = omega (arith, simp length-append at short, texts-least changeLine 20 change-least (t .changes))
 
@@ -39,7 +41,7 @@ pub record Small (s : State) : Type 0 where
   pub mates : (v : ℕ) → v < s .n → s .mate v ≤ largest
   pub ranks : (v : ℕ) → v < s .n → s .rank v ≤ largest
 
-pub pair-most : (s : State) (v : ℕ) → Small s → v < s .n → length (pairLine s v) ≤ 50
+pub pair-most : (s : State) (v : ℕ) → Small s → v < s .n → length (pairLine s v) ≤ pairRoom
 unfolding pairLine
 pair-most s v h b =
     let r : s .rank v - 1 ≤ largest = omega (arith, h .ranks v b) in
@@ -48,19 +50,19 @@ pair-most s v h b =
       three-most (bytes "(pair (") v (bytes " ") (s .mate v) (bytes ") (level ") (s .rank v - 1) (bytes "))\n") (omega (arith, h .few)) (h .mates v b) r,
     )
 
-pub pairs-most : (s : State) → Small s → length (pairLines s) ≤ 50 * 256
+pub pairs-most : (s : State) → Small s → length (pairLines s) ≤ pairRoom * most
 unfolding pairLines
 pairs-most s h =
     let p : ℕ → Bool = λ v. ltb v (s .mate v) in
     omega (
       arith,
-      texts-most (pairLine s) (λ (v : ℕ). (v < s .n) × T (p v)) 50 (λ v g. pair-most s v h (g .0)) (listed p (s .n)) (listed-all p (s .n)),
+      texts-most (pairLine s) (λ (v : ℕ). (v < s .n) × T (p v)) pairRoom (λ v g. pair-most s v h (g .0)) (listed p (s .n)) (listed-all p (s .n)),
       listed-length p (s .n),
       count-bound p (s .n),
       h .few,
     )
 
-pub end-most : (s : State) → Small s → length (endLine s) ≤ 54
+pub end-most : (s : State) → Small s → length (endLine s) ≤ endRoom
 unfolding endText pairs
 end-most s h =
     let m : Mean = mean (edges s) (s .n) in
@@ -73,6 +75,9 @@ end-most s h =
           p (omega (arith, q .0, e)) (omega (arith, q .1, e)),
     )
 
+pub ending-most : (s : State) → Small s → length (pairLines s ++ endLine s) ≤ endingRoom
+ending-most s h = omega (arith, length-append (pairLines s) (endLine s), pairs-most s h, end-most s h)
+
 -- The whole.
 
 -- a property of states that changes keep, and that keeps the figures within 32 bits
@@ -82,11 +87,9 @@ pub record Bounded (R : Rules) (Good : State → Type 0) : Type 0 where
   pub small : (s : State) → Good s → Small s
 
 module _ (R : Rules) (Good : State → Type 0) (bounded : Bounded R Good) where
-  pub changes-most : (s : State) (cs : List Change) → Good s → length (changesText R s cs) ≤ 64 * length cs + 50 * 256 + 54
+  pub changes-most : (s : State) (cs : List Change) → Good s → length (changesText R s cs) ≤ answerRoom * length cs + endingRoom
   unfolding changesText
-  changes-most s [] g =
-      let h = bounded .small s g in
-      omega (arith, length-append (pairLines s) (endLine s), pairs-most s h, end-most s h)
+  changes-most s [] g = omega (arith, ending-most s (bounded .small s g))
   changes-most s (c ∷ cs) g =
       let d = change R s c in
       omega (
@@ -94,7 +97,7 @@ module _ (R : Rules) (Good : State → Type 0) (bounded : Bounded R Good) where
         length-append (answerLine (d .answer)) (changesText R (d .state) cs),
         answer-most (d .answer) (bounded .figures s c g),
         changes-most (d .state) cs (bounded .keeps s c g),
-        mul-suc 64 (length cs),
+        mul-suc answerRoom (length cs),
       )
 
   pub record-fits : (t : Trace) → Good (empty (t .n)) → length (traceText t) ≤ longest → length (recordText R t) ≤ spaceLength

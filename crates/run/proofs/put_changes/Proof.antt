@@ -3,11 +3,10 @@ use mathlib.Core.Path.{_≡_, sym, _∙_}
 use Prim.Native.Nat.{_+_, _-_, _≤_}
 use native.Mathlib.Omega.{arith}
 use lib.ListN.{length}
+use Rattle.text.specs.Rooms.{answerRoom, endingRoom}
 use Rattle.text.proofs.Over.{put-kept, length-part}
-use Rattle.record.specs.Line.{answerRoom}
 use Rattle.moves.proofs.Held.{held-sized}
 use Rattle.changes.proofs.Wholes.{sounded-held}
-use Rattle.run.specs.Recording.{endingRoom}
 use Rattle.run.proofs.Turns.{Going, going-start, Turn, turn-of, head-size, line-room, going-turn, ending-room, end-within, going-end}
 use borrow.Author.Needs.{needs}
 use Rattle.run.proofs.put_changes.Statement.{statement}

@@ -4,7 +4,7 @@ use native.Mathlib.Omega.{arith}
 use lib.ListN.{length}
 use Rattle.model.specs.State.{State}
 use Rattle.model.specs.Bytes.{read}
-use Rattle.record.specs.Line.{endRoom}
+use Rattle.text.specs.Rooms.{endRoom}
 use Rattle.text.proofs.Over.{put-then, put-kept, length-part}
 use Rattle.trace.proofs.Bound.{Small, pairs-most, end-most}
 use Rattle.trace.proofs.RecordFits.{valid-small}

@@ -4,8 +4,8 @@ use Prim.Native.Nat.{_+_, _-_, _≤_, _<_}
 use native.Mathlib.Omega.{arith}
 use lib.ListN.{length}
 use Rattle.model.specs.Bytes.{read}
+use Rattle.text.specs.Rooms.{pairRoom}
 use Rattle.text.proofs.Over.{length-part}
-use Rattle.record.specs.Line.{pairRoom}
 use Rattle.moves.proofs.Held.{held-sized, held-size}
 use Rattle.changes.proofs.Wholes.{sounded-held}
 use Rattle.run.proofs.Pairs.{Listed, listed-start, listed-kept, listed-room, listed-turn, listed-end}

@@ -1,0 +1,24 @@
+-- How much room the lines of a record need. Assumes nothing.
+use Prim.Native.Nat.{ℕ, _+_, _*_}
+use Rattle.model.specs.Bytes.{most}
+
+-- how many bytes a printer is lent at least: no first line, answer's line, pair's line, end line and line of a
+-- run turned back, of figures of 32 bits, is longer
+abbrev pub rackRoom : ℕ
+rackRoom = 27
+
+abbrev pub answerRoom : ℕ
+answerRoom = 64
+
+abbrev pub pairRoom : ℕ
+pairRoom = 50
+
+abbrev pub endRoom : ℕ
+endRoom = 54
+
+abbrev pub badRoom : ℕ
+badRoom = 28
+
+-- the lines after those of the changes: a pair's line for each vertex, and the end line
+abbrev pub endingRoom : ℕ
+endingRoom = pairRoom * most + endRoom
