@@ -5,26 +5,12 @@ pub type Row = [u64; 4];
 
 pub const EMPTY: Row = [0; 4];
 
-pub fn insert(row: &mut Row, v: u8) {
-    row[usize::from(v >> 6)] |= 1 << (v & 63);
-}
-
 pub fn remove(row: &mut Row, v: u8) {
     row[usize::from(v >> 6)] &= !(1 << (v & 63));
 }
 
 pub fn size(row: &Row) -> u32 {
     row.iter().map(|word| word.count_ones()).sum()
-}
-
-/// The lowest vertex of a set.
-pub fn first(row: &Row) -> Option<u8> {
-    for (k, &word) in row.iter().enumerate() {
-        if word != 0 {
-            return Some(vertex(k, word));
-        }
-    }
-    None
 }
 
 /// The lowest vertex in word k of a set.

@@ -38,9 +38,7 @@ fn two(rack: &RackBytes, at: usize) -> u16 {
 }
 
 fn set_two(rack: &mut RackBytes, at: usize, number: u16) {
-    let [low, high] = number.to_le_bytes();
-    rack[at] = low;
-    rack[at + 1] = high;
+    rack[at..at + 2].copy_from_slice(&number.to_le_bytes());
 }
 
 /// The number of vertices.

@@ -21,6 +21,7 @@ mod many;
 mod moves;
 mod planes;
 mod play;
+mod queues;
 mod ranks;
 mod record;
 mod run;

@@ -5,21 +5,25 @@
 //! list from which it draws. And phi at a level less the size of the out-row
 //! says how many edges a rise still has to take from other owners, so that
 //! the search for them ends early or does not begin.
+//!
+//! What a move needs only at times is not inlined, so that the rest keeps more
+//! in registers.
 
-use crate::bits::{self, Row, EMPTY};
+use crate::bits::{self, Row};
 use crate::layout::{
     any_owner, counted_from, disown, mate, own, owns, phi, rank, row, set_mate, set_phi, set_rank,
     set_row, RackBytes, FREE, ONES, REACHED,
 };
 use crate::moves::{Tally, Words};
+use crate::queues::{self, Queues};
 use crate::ranks::{on_rank, ranked_within};
 
-/// A change in play. Pending vertices stand in one set a rank, so that none
+/// A change in play. Pending vertices stand in one queue a rank, so that none
 /// has to be looked for.
 pub struct Play<'a, W> {
     rack: &'a mut RackBytes,
     words: W,
-    pending: [Row; 4],
+    queues: Queues,
     pub tally: Tally,
 }
 
@@ -28,40 +32,38 @@ impl<W: Words> Play<'_, W> {
         Play {
             rack,
             words,
-            pending: [EMPTY; 4],
+            queues: Queues::start(),
             tally: Tally::start(pairs),
         }
     }
 
-    /// The pending vertices of a rank from 1 to 4. The mask spares the test
-    /// of the index.
-    fn pending(&mut self, rank: u8) -> &mut Row {
-        &mut self.pending[usize::from(rank.wrapping_sub(1) & 3)]
-    }
-
-    /// The pair a-b of this rank is parted, and both pend.
+    /// The pair a-b of this rank is parted, and both pend, the lower number first.
     pub fn part(&mut self, a: u8, b: u8, rank: u8) {
-        for v in [a, b] {
-            set_mate(self.rack, v, FREE);
-            bits::insert(self.pending(rank), v);
+        for v in [a.min(b), a.max(b)] {
+            self.queues.join(self.rack, v, rank);
         }
         self.tally.pairs -= 1;
     }
 
-    /// Before a vertex rises it leaves its mate, who then pends; one that
-    /// pends itself no longer does.
+    /// Before a vertex rises it leaves its mate, who then pends as the last of
+    /// that rank; one that pends itself no longer does.
     fn leave(&mut self, v: u8) {
         let rank = rank(self.rack, v);
         if rank == 0 {
             return;
         }
         let mate = mate(self.rack, v);
-        if mate == FREE {
-            return bits::remove(self.pending(rank), v);
+        if queues::pends(mate) {
+            return self.leave_queue(v, rank);
         }
-        set_mate(self.rack, mate as u8, FREE);
-        bits::insert(self.pending(rank), mate as u8);
+        self.queues.join(self.rack, mate as u8, rank);
         self.tally.pairs -= 1;
+    }
+
+    /// A pending vertex no longer pends.
+    #[inline(never)]
+    fn leave_queue(&mut self, v: u8, rank: u8) {
+        self.queues.leave(self.rack, v, rank);
     }
 
     pub fn rise_and_draw(&mut self, u: u8, to: u8) {
@@ -94,6 +96,7 @@ impl<W: Words> Play<'_, W> {
 
     /// Takes so many edges to vertices below a rank from their owners, none of
     /// which stands below u.
+    #[inline(never)]
     fn take_over(&mut self, u: u8, to: u8, missing: u32) {
         let passed = ONES >> (32 - 8 * u32::from(to));
         let least = rank(self.rack, u).max(1);
@@ -134,14 +137,18 @@ impl<W: Words> Play<'_, W> {
         self.tally.pairs += 1;
     }
 
-    /// While any vertex pends, takes the lowest number of the highest rank.
-    /// None comes to pend above the rank in hand.
+    /// While any vertex pends, takes the one of the highest rank that has pended
+    /// there longest. Meanwhile no other one joins or leaves the queue of that
+    /// rank or a higher one.
     pub fn settle(&mut self, highest: u8) {
-        for rank in (1..=highest).rev() {
-            while let Some(v) = bits::first(self.pending(rank)) {
-                bits::remove(self.pending(rank), v);
+        let mut rank = highest;
+        while rank != 0 {
+            let mut next = self.queues.first(rank);
+            while let Some(v) = queues::vertex(next) {
+                next = mate(self.rack, v);
                 self.take(v, rank);
             }
+            rank -= 1;
         }
     }
 
@@ -183,6 +190,7 @@ impl<W: Words> Play<'_, W> {
 
     /// The same where there are many edges: all ends on the rank are found
     /// beforehand.
+    #[inline(never)]
     fn hand_over_many(&mut self, v: u8, at: u8, row: &mut Row) -> u32 {
         let mut handed = 0;
         for (k, word) in row.iter_mut().enumerate() {
@@ -195,16 +203,19 @@ impl<W: Words> Play<'_, W> {
         handed
     }
 
-    /// Vertex v falls by one rank. All in its out-row count it once more at
-    /// the level left; if some thereby reach the threshold, the row is then gone
-    /// through in order, and those rise that still reach it when their turn
-    /// comes, for an earlier rise may have lowered their count.
+    /// Vertex v falls by one rank, and there it pends at once, but not on rank 0.
+    /// All in its out-row count it once more at the level left; if some thereby
+    /// reach the threshold, the row is then gone through in order, and those rise
+    /// that still reach it when their turn comes, for an earlier rise may have
+    /// lowered their count.
     fn fall(&mut self, v: u8, from: u8, row: &Row, below: u32) {
         let level = 8 * (u32::from(from) - 1);
         set_rank(self.rack, v, from - 1);
         self.tally.falls += 1;
         if from > 1 {
-            bits::insert(self.pending(from - 1), v);
+            self.queues.join(self.rack, v, from - 1);
+        } else {
+            set_mate(self.rack, v, FREE);
         }
         if below == 0 {
             return;

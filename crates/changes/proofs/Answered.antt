@@ -13,7 +13,7 @@ use Rattle.theory.proofs.Numbers.{Fitting, number-zero}
 use Rattle.theory.proofs.ChangeStep.{Step}
 use Rattle.theory.proofs.OnBytes.{step}
 use Rattle.moves.proofs.Edges.{edge-turn}
-use Rattle.settling.specs.declared.Tally.{Tally}
+use Rattle.settling.specs.declared.tally.Tally.{Tally}
 use Rattle.changes.specs.declared.Answer.{Answer}
 use Rattle.changes.specs.Sounded.{Sounded, Acceptable, acceptedRun, Ended, Answers}
 

@@ -6,20 +6,20 @@ use mathlib.Core.Bool.{not, _&&_}
 use Prim.Native.Nat.{ℕ, zero, suc, _≤_, _<_}
 use native.Mathlib.Omega.{arith}
 use lib.Dec.{T, eqb, eqb→eq}
-use Rattle.model.specs.Counting.{upd}
 use Rattle.model.specs.State.{base, State, below, phi, pending}
 use Rattle.model.specs.Bytes.{mateEntry}
 use Rattle.model.specs.Valid.{Valid}
-use Rattle.model.specs.Moves.{none, found, part}
+use Rattle.model.specs.Moves.{none, found}
 use Rattle.model.specs.Change.{isEdge, withoutEdge, reown, owning, addEdge, riser}
 use Rattle.model.proofs.Tests.{eq?, le?, and-left, and-right, or-cases}
-use Rattle.model.proofs.Lists.{upd-other}
 use Rattle.model.proofs.Limits.{phi-below, mateEntry-free, mateEntry-mate}
+use Rattle.theory.specs.Waiting.{marks, Paired}
 use Rattle.theory.proofs.Takings.{pending-is}
+use Rattle.theory.proofs.EdgeSets.{add-marks}
 use Rattle.theory.proofs.Matching.{base-pos}
 use Rattle.theory.proofs.Loops.{riser-stop, riser-a, riser-b, riser-next}
 use Rattle.moves.specs.Proper.{Ordered}
-use Rattle.edges.proofs.Changed.{add-high, add-low, add-rank, add-mate}
+use Rattle.edges.proofs.Changed.{add-size, add-high, add-low, add-rank, add-mate}
 
 -- nothing is pending where every free vertex has rank 0
 pub still : (s : State) → ((v : ℕ) → s .mate v ≡ v → s .rank v ≡ 0) → (v i : ℕ) → T (pending s i v) → ⊥
@@ -28,6 +28,19 @@ still s f v i t = let k = pending-is s i v t in omega (arith, f v (k .0), k .1)
 -- an edge more changes neither ranks nor mates
 pub add-still : (s : State) → Valid base s → (a b v i : ℕ) → T (pending (addEdge a b s) i v) → ⊥
 add-still s ok a b = still (addEdge a b s) (λ v e. add-rank a b s v ∙ ok .free-low v (sym (add-mate a b s v) ∙ e))
+
+-- mates name each other on one level, and an edge more changes nothing of that
+pub valid-paired : (s : State) → Valid base s → Paired (s .n) (marks s)
+valid-paired s ok = record {
+  back = ok .mates-back;
+  level = ok .mates-level;
+  high = λ v d. elim (le? 1 (s .rank v)) [ inl b ↦ b | inr b ↦ absurd (d (ok .low-free v (omega arith))) ];
+  past = ok .past;
+}
+
+pub add-paired : (a b : ℕ) (s : State) → Paired (s .n) (marks s) → Paired (addEdge a b s .n) (marks (addEdge a b s))
+add-paired a b s p =
+    subst (Paired (addEdge a b s .n)) (sym (add-marks a b s)) (subst (λ (k : ℕ). Paired k (marks s)) (sym (add-size a b s)) p)
 
 -- owners stay in order
 owning-ordered : (s : State) (o e : ℕ) → Ordered s → s .rank e ≤ s .rank o → Ordered (owning o e s)
@@ -112,22 +125,3 @@ entry-names s a b d l e = elim (eq? (s .mate a) a) [
 
 pub entry-not : (s : State) (a b : ℕ) → a ≢ b → mateEntry s a ≢ b → s .mate a ≢ b
 entry-not s a b d e m = e (mateEntry-mate s a (λ z. d (sym z ∙ m)) ∙ m)
-
--- After a parting, the two that were mates are all that can be pending.
-pub parted-pending : (s : State) → ((v : ℕ) → s .mate v ≡ v → s .rank v ≡ 0) → (a v i : ℕ) → T (pending (part a s) i v)
-    → (v ≡ a) ⊎ (v ≡ s .mate a)
-parted-pending s f a v i t = elim (eq? v a) [
-  | inl e ↦ inl e
-  | inr d ↦ elim (eq? v (s .mate a)) [
-    | inl e ↦ inr e
-    | inr c ↦
-        let k = pending-is (part a s) i v t in
-        let m : part a s .mate v ≡ s .mate v = kept d c in
-        let r : part a s .rank v ≡ s .rank v = unfold part in refl in
-        absurd (omega (arith, f v (sym m ∙ k .0), k .1, r))
-  ]
-]
-  where
-    kept : v ≢ a → v ≢ s .mate a → part a s .mate v ≡ s .mate v
-    kept d c = unfold part in
-        upd-other (upd (s .mate) (s .mate a) (s .mate a)) a a v d ∙ upd-other (s .mate) (s .mate a) (s .mate a) v c

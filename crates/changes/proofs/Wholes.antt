@@ -3,27 +3,22 @@ use mathlib.Core.Path.{_≡_, sym, ap, _∙_, subst}
 use mathlib.Core.Logic.{_≢_, inl, inr}
 use mathlib.Core.Bool.{true, false}
 use mathlib.Core.List.{List}
-use Prim.Native.Nat.{ℕ, suc, _-_, _≤_, _<_}
+use Prim.Native.Nat.{ℕ, suc, _<_}
 use native.Mathlib.Omega.{arith}
 use lib.Dec.{T}
-use lib.ListN.{replicate, length}
 use Rattle.model.specs.State.{base, State, edge, pending}
 use Rattle.model.specs.Bytes.{mateAt, read, write, mateEntry}
-use Rattle.model.specs.Moves.{none, found, part, promote, settle}
-use Rattle.model.specs.Change.{start, reown, withoutEdge, addEdge, riser, add, drop}
-use Rattle.model.proofs.Tests.{eq?, true-T, eqb-yes, eqb-no}
-use Rattle.theory.proofs.Takings.{pending-of}
-use Rattle.bitset.specs.Row.{member, inserted}
-use Rattle.bitset.proofs.Laws.{inserted-same, inserted-other, length-inserted}
+use Rattle.model.specs.Moves.{none, found, promote, settle}
+use Rattle.model.specs.Change.{start, startParted, reown, withoutEdge, addEdge, riser, add, drop}
+use Rattle.model.proofs.Tests.{eqb-yes, eqb-no}
+use Rattle.theory.specs.Waiting.{marks, Paired}
 use Rattle.moves.specs.Proper.{Proper, Ordered, Held}
 use Rattle.moves.proofs.Held.{held-of, held-small, held-mate, reads-as, valid-proper, valid-ordered}
-use Rattle.moves.proofs.Keeps.{part-proper}
 use Rattle.edges.proofs.Changed.{add-size, add-proper, drop-proper}
-use Rattle.settling.specs.declared.Tally.{Tally}
-use Rattle.settling.specs.Settling.{HoldsPending}
+use Rattle.settling.specs.declared.tally.Tally.{Tally}
 use Rattle.changes.specs.Sounded.{Sounded, Begun, Liftable, Ended}
-use Rattle.changes.proofs.Begun.{still, add-still, add-ordered, drop-ordered, Riser, riser-of, entry-names, entry-not, parted-pending}
-use Rattle.changes.proofs.Chains.{empty-wide, Onward}
+use Rattle.changes.proofs.Begun.{still, add-still, add-ordered, drop-ordered, Riser, riser-of, valid-paired, add-paired, entry-names, entry-not}
+use Rattle.changes.proofs.Chains.{Fresh}
 
 pub sounded-held : (bs : List ℕ) → Sounded bs → Held bs
 sounded-held bs s = record { written = s .written; proper = valid-proper (read bs) (s .valid) }
@@ -47,6 +42,7 @@ module _ {bs₀ : List ℕ} {a b : ℕ} {bs : List ℕ} (x : Added bs₀ a b bs)
   added-begun = record {
     held = held-of bs (addEdge a b (read bs₀)) (x .rack) added-proper;
     ordered = subst Ordered (sym added-read) (add-ordered (read bs₀) a b (valid-ordered (read bs₀) (x .from .valid)));
+    paired = subst (λ (s : State). Paired (s .n) (marks s)) (sym added-read) (add-paired a b (read bs₀) (valid-paired (read bs₀) (x .from .valid)));
     still = λ v i t. add-still (read bs₀) (x .from .valid) a b v i (subst (λ (s : State). T (pending s i v)) added-read t);
   }
 
@@ -57,7 +53,7 @@ module _ {bs₀ : List ℕ} {a b : ℕ} {bs : List ℕ} (x : Added bs₀ a b bs)
 
   -- no level is reached: finished
   pub added-none : (words : List ℕ) → riser base a b (suc (base .top)) (read bs) ≡ none → {t : Tally}
-      → (t .draws ≡ 0) × (t .falls ≡ 0) → Ended (add base words a b (read bs₀)) bs t
+      → Fresh t → Ended (add base words a b (read bs₀)) bs t
   unfolding add start
   added-none words f z =
       rw (subst (λ (s : State). riser base a b (suc (base .top)) s ≡ none) added-read f, add)
@@ -103,6 +99,7 @@ module _ {bs₀ : List ℕ} {a b : ℕ} {bs : List ℕ} (x : Dropped bs₀ a b b
   dropped-begun = record {
     held = held-of bs (without (read bs₀) a b) (x .rack) dropped-proper;
     ordered = subst Ordered (sym dropped-read) (drop-ordered (read bs₀) a b (valid-ordered (read bs₀) (x .from .valid)));
+    paired = subst (λ (s : State). Paired (s .n) (marks s)) (sym dropped-read) (valid-paired (read bs₀) (x .from .valid));
     still = λ v i t. still (without (read bs₀) a b) (x .from .valid .free-low) v i
         (subst (λ (s : State). T (pending s i v)) dropped-read t);
   }
@@ -131,7 +128,7 @@ module _ {bs₀ : List ℕ} {a b : ℕ} {bs : List ℕ} (x : Dropped bs₀ a b b
     dropped-mates e = entry-names (read bs) a b (x .ends .2) (dropped-small .1) (sym entry ∙ e)
 
     -- a loose edge: no level changes
-    pub dropped-loose : (words : List ℕ) → k ≢ b → {t : Tally} → (t .draws ≡ 0) × (t .falls ≡ 0)
+    pub dropped-loose : (words : List ℕ) → k ≢ b → {t : Tally} → Fresh t
         → Ended (drop base words a b (read bs₀)) bs t
     unfolding drop start
     dropped-loose words d z =
@@ -140,62 +137,8 @@ module _ {bs₀ : List ℕ} {a b : ℕ} {bs : List ℕ} (x : Dropped bs₀ a b b
 
     -- the edge of a pair: parted, and the settling follows
     pub dropped-pair : (words : List ℕ) → k ≡ b → {bs′ : List ℕ} {t : Tally}
-        → Ended (settle base words (start (part a (read bs)))) bs′ t → Ended (drop base words a b (read bs₀)) bs′ t
+        → Ended (settle base words (startParted a b (read bs))) bs′ t → Ended (drop base words a b (read bs₀)) bs′ t
     unfolding drop
     dropped-pair words e {bs′} {t} r =
         rw (eqb-yes (read bs₀ .mate a) b (sym same-mate ∙ dropped-mates e), drop)
-        (subst (λ (s : State). Ended (settle base words (start (part a s))) bs′ t) dropped-read r)
-
--- ---- parting a and b, which are mates: row names both
-module _ {bs : List ℕ} (g : Begun bs) {a b : ℕ} (ends : (a < read bs .n) × (b < read bs .n) × (read bs .mate a ≡ b))
-    {row₀ row₁ row : List ℕ} (empty : row₀ ≡ replicate 32 0) (first : row₁ ≡ inserted row₀ a) (both : row ≡ inserted row₁ b) where
-  free-low : (v : ℕ) → read bs .mate v ≡ v → read bs .rank v ≡ 0
-  free-low v h = elim (eq? (read bs .rank v) 0) [
-    | inl z ↦ z
-    | inr z ↦ absurd (g .still v (read bs .rank v - 1) (pending-of (read bs) (read bs .rank v - 1) v h (omega arith)))
-  ]
-
-  row-wide : (length row₁ ≡ 32) × (length row ≡ 32)
-  row-wide =
-      let one : length row₁ ≡ 32 = ap length first ∙ length-inserted row₀ a ∙ empty-wide empty in
-      (one, ap length both ∙ length-inserted row₁ b ∙ one)
-
-  -- the two are all that can be pending once they are parted
-  has-b : member row b ≡ true
-  has-b =
-      let few : read bs .n ≤ 256 = g .held .proper .few in
-      ap (λ (r : List ℕ). member r b) both ∙ inserted-same row₁ b (omega (arith, ends .1, row-wide .0))
-
-  has-a : member row a ≡ true
-  has-a = elim (eq? a b) [
-    | inl e ↦ ap (member row) e ∙ has-b
-    | inr d ↦
-        let few : read bs .n ≤ 256 = g .held .proper .few in
-        ap (λ (r : List ℕ). member r a) both ∙ inserted-other row₁ b a d
-        ∙ ap (λ (r : List ℕ). member r a) first ∙ inserted-same row₀ a (omega (arith, ends .0, empty-wide empty))
-  ]
-
-  parted-holds : HoldsPending row (part a (read bs))
-  parted-holds = record {
-    wide = row-wide .1;
-    holds = λ v i l t. elim (parted-pending (read bs) free-low a v i t) [
-      | inl e ↦ true-T (ap (member row) e ∙ has-a)
-      | inr e ↦ true-T (ap (member row) (e ∙ ends .2) ∙ has-b)
-    ];
-  }
-
-  -- where the parting leaves the run
-  pub parted-next : {bs′ : List ℕ} {t : Tally} → bs′ ≡ write (part a (read bs)) → (t .draws ≡ 0) × (t .falls ≡ 0)
-      → Onward (start (part a (read bs))) bs′ row t
-  unfolding start
-  parted-next {bs′} e z =
-      let p : Proper (part a (read bs)) = part-proper (read bs) (g .held .proper) a (ends .0) in
-      let r : read bs′ ≡ part a (read bs) = reads-as bs′ (part a (read bs)) e p in
-      let o : Ordered (part a (read bs)) = unfold part in g .ordered in
-      record {
-        held = held-of bs′ (part a (read bs)) e p;
-        ordered = subst Ordered (sym r) o;
-        pends = subst (HoldsPending row) (sym r) parted-holds;
-        room = record { draws = omega (arith, z .0); falls = omega (arith, z .1) };
-        same = record { state = r; draws = z .0; falls = z .1 };
-      }
+        (subst (λ (s : State). Ended (settle base words (startParted a b s)) bs′ t) dropped-read r)

@@ -11,8 +11,9 @@ use Rattle.model.specs.Bytes.{read, write}
 use Rattle.model.specs.Valid.{Valid}
 use Rattle.model.specs.Moves.{Run}
 use Rattle.model.specs.Change.{Change, Answer as AnswerOf, lower, upper, add, drop}
+use Rattle.theory.specs.Waiting.{marks, Paired}
 use Rattle.moves.specs.Proper.{Ordered, Held}
-use Rattle.settling.specs.declared.Tally.{Tally}
+use Rattle.settling.specs.declared.tally.Tally.{Tally}
 use Rattle.changes.specs.declared.Answer.{Answer}
 
 -- the bytes are the writing of a valid state: exactly the sound racks are (model, proofs/Bridge.antt)
@@ -20,10 +21,11 @@ pub record Sounded (bs : List ℕ) : Type 0 where
   pub written : bs ≡ write (read bs)
   pub valid : Valid base (read bs)
 
--- where the moves of a change begin: a proper rack with owners in order, on which nothing is pending
+-- where the moves of a change begin: a proper rack with owners in order and mates that name each other, on which nothing is pending
 pub record Begun (bs : List ℕ) : Type 0 where
   pub held : Held bs
   pub ordered : Ordered (read bs)
+  pub paired : Paired (read bs .n) (marks (read bs))
   pub still : (v i : ℕ) → T (pending (read bs) i v) → ⊥
 
 -- u can be promoted to level i

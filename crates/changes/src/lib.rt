@@ -5,11 +5,11 @@ ghost use mathlib.Core.Bool.{true, false};
 ghost use Prim.Native.Nat.{_<_};
 ghost use Rattle.model.specs.State.{base, edge, pairs as pairsOf};
 ghost use Rattle.model.specs.Bytes.{read, write};
-ghost use Rattle.model.specs.Moves.{part as parted, promote as promoted, settle as settled};
-ghost use Rattle.model.specs.Change.{start, lower as lowerOf, upper as upperOf, add as added, drop as dropped, number as numberOf, change as changeOf};
+ghost use Rattle.model.specs.Moves.{promote as promoted, settle as settled};
+ghost use Rattle.model.specs.Change.{start, startParted, lower as lowerOf, upper as upperOf, add as added, drop as dropped, number as numberOf, change as changeOf};
 ghost use Rattle.moves.specs.Proper.{Held};
 ghost use Rattle.changes.specs.Sounded.{Sounded, Begun, Liftable, Acceptable, acceptedRun, Ended, Answers, brought, codeNumber, endsNumber, linkNumber, wordsNumber, first as firstOf};
-use settling::Tally;
+use settling::tally::Tally;
 
 // "A change answers 0, its draws, its falls (moves down by one level) and the pairs then held."
 pub struct Answer {
@@ -129,22 +129,22 @@ fn promote_and_settle(rack: &mut [u8], u: usize, i: usize, words: &[u32]) -> Tal
     requires { ⌜ Liftable (read (now rack)) i u ⌝ }
     ensures { λ r. ⌜ Ended (settled base (now (words .entry)) (promoted (now (words .entry)) i u (start (read (now (rack .entry)))))) (now (rack .exit)) r ⌝ }
 {
-    let mut pending = layout::empty_row();
-    let t = settling::promote(rack, &mut pending, words, u, i, Tally::new());
-    settling::settle(rack, &mut pending, words, t)
+    let mut queue = layout::places();
+    let t = settling::promote(rack, &mut queue, words, u, i, Tally::new());
+    settling::settle(rack, &mut queue, words, t)
 }
 
-// "part them and settle": a's mate is b.
+// "part them and settle": a's mate is b. "Parting by a drop puts the lower number first.", which is a.
 fn part_and_settle(rack: &mut [u8], a: usize, b: usize, words: &[u32]) -> Tally
     requires { ⌜ Begun (now rack) ⌝ }
-    requires { ⌜ (a < read (now rack) .n) × (b < read (now rack) .n) × (read (now rack) .mate a ≡ b) ⌝ }
-    ensures { λ r. ⌜ Ended (settled base (now (words .entry)) (start (parted a (read (now (rack .entry)))))) (now (rack .exit)) r ⌝ }
+    requires { ⌜ (a < read (now rack) .n) × (b < read (now rack) .n) × (a ≢ b) × (read (now rack) .mate a ≡ b) ⌝ }
+    ensures { λ r. ⌜ Ended (settled base (now (words .entry)) (startParted a b (read (now (rack .entry))))) (now (rack .exit)) r ⌝ }
 {
-    let mut pending = layout::empty_row();
-    bitset::insert(&mut pending, a);
-    bitset::insert(&mut pending, b);
+    let mut queue = layout::places();
+    let first = settling::join(&mut queue, a, Tally::new());
+    let both = settling::join(&mut queue, b, first);
     moves::part(rack, a);
-    settling::settle(rack, &mut pending, words, Tally::new())
+    settling::settle(rack, &mut queue, words, both)
 }
 
 // A drop of an edge that is there: a is the lower number. "If its ends were mates, part them and settle."

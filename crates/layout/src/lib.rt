@@ -57,11 +57,11 @@ pub fn sized(rack: &[u8]) -> bool
     rack.len() == RACK_BYTES
 }
 
-// A row of bits for vertices, with none in it.
-pub fn empty_row() -> [u8; 32]
-    ensures { λ r. ⌜ r ≡ replicate 32 0 ⌝ }
+// Places for vertices, as many as a rack has at most.
+pub fn places() -> [u16; MOST]
+    ensures { λ r. ⌜ length r ≡ mostOf ⌝ }
 {
-    [0u8; 32]
+    [0u16; MOST]
 }
 
 // The number of vertices.

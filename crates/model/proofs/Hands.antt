@@ -4,44 +4,28 @@ use mathlib.Core.Path.{_≡_, refl}
 use mathlib.Core.Bool.{_&&_, _||_, cond}
 use mathlib.Core.List.{List, [], _∷_, map}
 use Prim.Native.Nat.{ℕ, _+_, _-_, _%_}
-use native.Mathlib.Nat.{one-le-pow}
 use native.Mathlib.Omega.{arith}
-use lib.Dec.{T, eqb, leb, ltb, ltb→lt}
+use lib.Dec.{T, eqb, leb}
 use Rattle.model.specs.Counting.{sum, count, every}
 use Rattle.model.specs.State.{State, base, edge, near, below, phi}
 use Rattle.model.specs.Bytes.{write}
 use Rattle.model.specs.Sound.{sound}
-use Rattle.model.specs.Valid.{Valid}
 use Rattle.model.specs.Change.{Change}
-use Rattle.model.proofs.Tests.{and-left, and-right, leb-yes}
-use Rattle.model.proofs.Bridge.{write-sound}
-use Rattle.model.proofs.Tested.{tested, tested-valid}
+use Rattle.model.proofs.Tested.{tested, laid, laid-sound}
 use Rattle.model.proofs.Table.{Row, from, made, computed, expected, adds, drops, pair}
 use Rattle.model.proofs.Bench.{zeros, star, hub}
 
 -- Vertex 0 is paired with 1 on level 0 and has two free neighbours, 2 and 3; its other neighbours, 5 to 16, are paired on level 1 and
 -- own their links to 0. So a fifth neighbour makes its count 4 at level 1 and 16 at level 2 at once.
 unfoldable pub crowd : State
-crowd = record {
-  n = 17;
-  rank = λ v. cond (leb 17 v) 0 (cond (leb v 1) 1 (cond (leb v 4) 0 2));
-  mate = λ v. cond (leb 17 v) v (cond (eqb v 0) 1 (cond (eqb v 1) 0 (cond (leb v 4) v (cond (eqb (v % 2) 1) (v + 1) (v - 1)))));
-  owns = λ v w. ltb v 17 && (ltb w 17 && (eqb v 0 && (leb 1 w && leb w 3) || leb 5 v && (eqb w 0 || eqb (v % 2) 1 && eqb w (v + 1))));
-}
-
--- It is sound: a valid rack, by a test of its 17 vertices, and so are its bytes.
-pub crowd-valid : Valid base crowd
-unfolding crowd base
-crowd-valid =
-    tested-valid base (λ j. one-le-pow j 4 (omega arith)) crowd (omega arith) (omega arith)
-    (λ v w t. (ltb→lt v 17 (and-left (ltb v 17) _ t), ltb→lt w 17 (and-left (ltb w 17) _ (and-right (ltb v 17) _ t))))
-    (λ v l. rw (leb-yes 17 v l) refl)
-    (λ v l. rw (leb-yes 17 v l) refl)
-    (unfold tested every sum count edge near below phi in tt)
+crowd = laid 17
+    (λ v. cond (leb v 1) 1 (cond (leb v 4) 0 2))
+    (λ v. cond (eqb v 0) 1 (cond (eqb v 1) 0 (cond (leb v 4) v (cond (eqb (v % 2) 1) (v + 1) (v - 1)))))
+    (λ v w. eqb v 0 && (leb 1 w && leb w 3) || leb 5 v && (eqb w 0 || eqb (v % 2) 1 && eqb w (v + 1)))
 
 pub crowd-sound : T (sound base (write crowd))
-unfolding base
-crowd-sound = write-sound base (omega arith) crowd crowd-valid
+unfolding crowd
+crowd-sound = laid-sound 17 _ _ _ (omega arith) (omega arith) (unfold laid base tested every sum count edge near below phi in tt)
 
 words : List ℕ
 words = 1 ∷ 0 ∷ 0 ∷ 0 ∷ 0 ∷ 0 ∷ 0 ∷ 0 ∷ []
@@ -69,5 +53,5 @@ hands =
     made 6 tied (adds 3 5 (0 ∷ zeros)) 0 1 2 (pair 0 3 1 ∷ []) (2 ∷ 0 ∷ 0 ∷ 2 ∷ 0 ∷ 0 ∷ []) ∷ []
 
 pub hands-hold : map computed hands ≡ map expected hands
-unfolding hands crowd star hub zeros computed
+unfolding hands crowd laid star hub zeros computed
 hands-hold = refl

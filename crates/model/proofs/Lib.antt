@@ -15,5 +15,6 @@ pub mod Tested
 pub mod Table
 pub mod Bench
 pub mod Hands
+pub mod Order
 pub mod Mean
 pub mod Example

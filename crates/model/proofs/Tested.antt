@@ -1,18 +1,21 @@
 -- A state is valid if a test that computes passes each of its n vertices and nothing stands from n on: for racks that are written down.
 -- Assumes nothing.
-use mathlib.Core.Path.{_≡_, ap, _∙_}
+use mathlib.Core.Path.{_≡_, refl, ap, _∙_}
 use mathlib.Core.Logic.{_≢_, inl, inr}
-use mathlib.Core.Bool.{Bool, not, _&&_, _||_}
+use mathlib.Core.Bool.{Bool, not, _&&_, _||_, cond}
 use Prim.Native.Nat.{ℕ, suc, _≤_, _<_}
+use native.Mathlib.Nat.{one-le-pow}
 use native.Mathlib.Omega.{arith}
 use lib.Dec.{T, leb, ltb, eqb, leb→le, ltb→lt, eqb→eq, eqb-refl, not-T, T-not}
 use Rattle.model.specs.Counting.{every}
-use Rattle.model.specs.State.{Rules, State, edge, phi}
-use Rattle.model.specs.Bytes.{most}
+use Rattle.model.specs.State.{Rules, State, base, edge, phi}
+use Rattle.model.specs.Bytes.{most, write}
+use Rattle.model.specs.Sound.{sound}
 use Rattle.model.specs.Valid.{Valid}
-use Rattle.model.proofs.Tests.{le?, true-T, eqb-yes, and-left, and-right, or-cases}
+use Rattle.model.proofs.Tests.{le?, true-T, eqb-yes, leb-yes, and-left, and-right, or-cases}
 use Rattle.model.proofs.Counting.{every-all}
 use Rattle.model.proofs.Limits.{phi-none}
+use Rattle.model.proofs.Bridge.{write-sound}
 
 -- if a then b, as a test
 abbrev implied : Bool → Bool → Bool
@@ -132,3 +135,22 @@ module _ (R : Rules) (pos : (j : ℕ) → 1 ≤ R .thr j) (s : State) (some : 1 
         (every-all (λ j. ltb (phi s v j) (R .thr j)) (suc (R .top)) (every-all (phiTest R s) (s .n) (p .counts) v l) j (omega arith)))
         (λ v l j i. omega (arith, pos j, phi-none s inside v j l));
   }
+
+-- A rack that is laid down: ranks, mates and owners of n vertices, whatever is said of others.
+unfoldable pub laid : ℕ → (ℕ → ℕ) → (ℕ → ℕ) → (ℕ → ℕ → Bool) → State
+laid n rank mate owns = record {
+  n = n;
+  rank = λ v. cond (leb n v) 0 (rank v);
+  mate = λ v. cond (leb n v) v (mate v);
+  owns = λ v w. ltb v n && (ltb w n && owns v w);
+}
+
+-- It is sound, by a test of its vertices: a valid rack, and so are its bytes.
+pub laid-sound : (n : ℕ) (rank mate : ℕ → ℕ) (owns : ℕ → ℕ → Bool) → 1 ≤ n → n ≤ most → T (tested base (laid n rank mate owns))
+    → T (sound base (write (laid n rank mate owns)))
+unfolding laid base
+laid-sound n rank mate owns some few h =
+    write-sound base (omega arith) (laid n rank mate owns)
+    (tested-valid base (λ j. one-le-pow j 4 (omega arith)) (laid n rank mate owns) some few
+    (λ v w t. (ltb→lt v n (and-left (ltb v n) _ t), ltb→lt w n (and-left (ltb w n) _ (and-right (ltb v n) _ t))))
+    (λ v l. rw (leb-yes n v l) refl) (λ v l. rw (leb-yes n v l) refl) h)

@@ -2,25 +2,29 @@
 -- Assumes nothing.
 use mathlib.Core.Path.{_≡_, sym, ap, _∙_, subst}
 use mathlib.Core.Logic.{_≢_}
-use mathlib.Core.List.{List}
-use Prim.Native.Nat.{ℕ, _%_, _<_}
+use mathlib.Core.List.{List, []}
+use Prim.Native.Nat.{ℕ, _%_, _≤_, _<_}
+use native.Mathlib.Omega.{arith}
 use lib.Dec.{T}
 use lib.ListN.{getD}
 use Rattle.model.specs.Counting.{count}
-use Rattle.model.specs.State.{State, near, below}
+use Rattle.model.specs.State.{base, State, near, below}
 use Rattle.model.specs.Bytes.{noMate, mateAt, read}
 use Rattle.model.specs.Moves.{place, chosen}
 use Rattle.model.proofs.Prefix.{count-ext}
 use Rattle.model.proofs.Limits.{mateEntry-free, mateEntry-mate}
 use Rattle.theory.proofs.Loops.{chosen-at}
-use Rattle.bitset.specs.Row.{inserted}
 use Rattle.layout.specs.Rows.{degreeAt, NthOwned}
 use Rattle.moves.specs.Proper.{Held, RowBelow}
 use Rattle.moves.proofs.Held.{held-mate, held-owns, held-degree, held-small, nth-in}
 use Rattle.moves.proofs.Pairs.{entry-free as entry-alone}
-use Rattle.settling.specs.Settling.{running, noted}
-use Rattle.settling.specs.declared.Tally.{Tally}
-use Rattle.settling.proofs.Pending.{noted-paired}
+use Rattle.settling.specs.Settling.{running}
+use Rattle.settling.specs.declared.tally.Tally.{Tally}
+
+-- there are four levels from 0 on
+pub level-small : (i : ℕ) → i ≤ base .top → i < 4
+unfolding base
+level-small i k = omega arith
 
 module _ (bs : List ℕ) (h : Held bs) (v : ℕ) (l : v < read bs .n) where
   -- the entry for no mate, and any other
@@ -31,9 +35,6 @@ module _ (bs : List ℕ) (h : Held bs) (v : ℕ) (l : v < read bs .n) where
   entry-paired m e f =
       let d : read bs .mate v ≢ v = λ q. f (e ∙ held-mate h v (held-small h v l) ∙ mateEntry-free (read bs) v q) in
       (d, e ∙ held-mate h v (held-small h v l) ∙ mateEntry-mate (read bs) v d)
-
-  pub entry-noted : (row : List ℕ) (m : ℕ) → m ≡ mateAt bs v → m ≢ noMate → inserted row m ≡ noted (read bs) row v
-  entry-noted row m e f = let p = entry-paired m e f in ap (inserted row) (p .1) ∙ sym (noted-paired (read bs) row v (p .0))
 
 -- a row of exactly the neighbours below the level is as long as they are many
 pub row-below : (s : State) (i u : ℕ) → RowBelow i u s → count (s .owns u) (s .n) ≡ below s u i
@@ -46,7 +47,7 @@ module _ (bs : List ℕ) (h : Held bs) (i u : ℕ) (l : u < read bs .n) (f : Row
 
   -- the vertex at the place that the word gives
   pub row-chosen : (words : List ℕ) (t : Tally) (k y : ℕ) → k ≡ degreeAt bs u → NthOwned bs u (getD words (t .draws) 0 % k) y
-      → (y ≡ chosen words i u (running bs t)) × T (near (read bs) u i y)
+      → (y ≡ chosen words i u (running bs [] t)) × T (near (read bs) u i y)
   unfolding place
   row-chosen words t k y d n =
       let s : State = read bs in
@@ -54,4 +55,4 @@ module _ (bs : List ℕ) (h : Held bs) (i u : ℕ) (l : u < read bs .n) (f : Row
       let c : T (near s u i y) = subst T (f y) (m .1) in
       let p : count (near s u i) y ≡ place words (t .draws) (below s u i) =
       sym (count-ext (s .owns u) (near s u i) y (λ w b. f w)) ∙ m .2 ∙ ap (λ (x : ℕ). getD words (t .draws) 0 % x) (d ∙ row-degree) in
-      (sym (chosen-at words i u (running bs t) y (m .0) c p), c)
+      (sym (chosen-at words i u (running bs [] t) y (m .0) c p), c)

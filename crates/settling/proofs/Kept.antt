@@ -1,5 +1,5 @@
 -- What every run of moves keeps, and that new pairs have no say in it. Assumes nothing.
-use mathlib.Core.Path.{_≡_, refl, sym, ap, subst}
+use mathlib.Core.Path.{_≡_, refl, sym, subst}
 use mathlib.Core.Logic.{inl, inr}
 use mathlib.Core.Bool.{Bool}
 use mathlib.Core.List.{List}
@@ -7,14 +7,14 @@ use Prim.Native.Nat.{ℕ, zero, suc, _+_, _≤_, _<_}
 use native.Mathlib.Omega.{arith}
 use lib.Dec.{T}
 use Rattle.model.specs.State.{base, State, below}
-use Rattle.model.specs.Moves.{Run, at, drawn, draw, handOver, fall, scanFrom, take}
+use Rattle.model.specs.Moves.{Run, handed, drawn, draw, handOver, fall, scanFrom, take}
 use Rattle.model.proofs.Tests.{le?, holds?, leb-yes, leb-no}
 use Rattle.theory.proofs.Matching.{base-pos}
 use Rattle.theory.proofs.Loops.{scanUpto, scanFrom-loop}
 use Rattle.moves.specs.Proper.{Proper, Ordered, ranked}
 use Rattle.moves.proofs.Keeps.{hand-row}
 use Rattle.settling.proofs.Steps.{kept-then, kept-none, hand-kept, fall-kept, draw-kept, visited-kept}
-use Rattle.settling.proofs.News.{same-of, same-then, at-same, draw-same, upto-none, upto-yes, upto-no, upto-room, scanFrom-same}
+use Rattle.settling.proofs.News.{same-of, same-then, handed-same, fall-same, draw-same, upto-none, upto-yes, upto-no, upto-room, scanFrom-same}
 pub use Rattle.settling.proofs.Steps.{SameEdges}
 pub use Rattle.settling.proofs.News.{SameRun}
 
@@ -37,12 +37,12 @@ scanFrom-kept words i v r p o k =
 
 -- The two ways of a taking.
 module _ (words : List ℕ) (i v : ℕ) (r : Run) where
-  pub take-draws : base .thr i ≤ below (handOver i v (r .state)) v i → take base words i v r ≡ draw words i v (at r (handOver i v (r .state)))
+  pub take-draws : base .thr i ≤ below (handOver i v (r .state)) v i → take base words i v r ≡ draw words i v (handed i v r)
   unfolding take
   take-draws h = rw (leb-yes (base .thr i) (below (handOver i v (r .state)) v i) h, take) refl
 
   pub take-falls : below (handOver i v (r .state)) v i < base .thr i
-      → take base words i v r ≡ scanFrom base words i v (fall i v (at r (handOver i v (r .state))))
+      → take base words i v r ≡ scanFrom base words i v (fall i v (handed i v r))
   unfolding take
   take-falls h = rw (leb-no (base .thr i) (below (handOver i v (r .state)) v i) h, take) refl
 
@@ -54,10 +54,10 @@ take-kept words i v r p o l e k =
     let a : SameEdges (r .state) s = hand-kept (r .state) p o i v l e in
     elim (le? (base .thr i) (below s v i)) [
       | inl h ↦ rw (take-draws words i v r h)
-          (kept-then a (draw-kept words i v (at r s) (a .proper) (a .ordered) l k (omega (arith, base-pos i))))
+          (kept-then a (draw-kept words i v (handed i v r) (a .proper) (a .ordered) l k (omega (arith, base-pos i))))
       | inr h ↦
           let b : SameEdges s (ranked v i s) = fall-kept s (a .proper) (a .ordered) i v l e (hand-row (r .state) p i v o e) in
-          rw (take-falls words i v r h) (kept-then (kept-then a b) (scanFrom-kept words i v (fall i v (at r s)) (b .proper) (b .ordered) k))
+          rw (take-falls words i v r h) (kept-then (kept-then a b) (scanFrom-kept words i v (fall i v (handed i v r)) (b .proper) (b .ordered) k))
     ]
 
 pub take-room : (words : List ℕ) (i v : ℕ) (r : Run) → Proper (r .state) → Ordered (r .state) → v < r .state .n → r .state .rank v ≡ suc i
@@ -68,21 +68,17 @@ take-room words i v r p o l e k =
     elim (le? (base .thr i) (below s v i)) [
       | inl h ↦ rw (take-draws words i v r h) (omega arith, omega arith)
       | inr h ↦
-          let q : Run = fall i v (at r s) in
+          let q : Run = fall i v (handed i v r) in
           let m = upto-room words i base (q .state .owns v) (q .state .n) q in
           rw (take-falls words i v r h, scanFrom-loop base words i v q) (omega (arith, m .0, p .few), omega (arith, m .1))
     ]
 
 pub take-same : (words : List ℕ) (i v : ℕ) (r q : Run) → SameRun r q → SameRun (take base words i v r) (take base words i v q)
-unfolding fall
 take-same words i v r q e =
-    let a : SameRun (at r (handOver i v (r .state))) (at q (handOver i v (q .state))) = at-same e (handOver i v) in
+    let a : SameRun (handed i v r) (handed i v q) = handed-same i v e in
     elim (le? (base .thr i) (below (handOver i v (r .state)) v i)) [
       | inl h ↦ same-then (same-of (take-draws words i v r h)) (same-then (draw-same words i v a)
           (same-of (sym (take-draws words i v q (subst (λ (s : State). base .thr i ≤ below (handOver i v s) v i) (e .state) h)))))
-      | inr h ↦ same-then (same-of (take-falls words i v r h)) (same-then (scanFrom-same base words i v (record {
-        state = ap (λ (s : State). fall i v (at r (handOver i v s)) .state) (e .state);
-        draws = e .draws;
-        falls = ap suc (e .falls);
-      })) (same-of (sym (take-falls words i v q (subst (λ (s : State). below (handOver i v s) v i < base .thr i) (e .state) h)))))
+      | inr h ↦ same-then (same-of (take-falls words i v r h)) (same-then (scanFrom-same base words i v (fall-same i v a))
+          (same-of (sym (take-falls words i v q (subst (λ (s : State). below (handOver i v s) v i < base .thr i) (e .state) h)))))
     ]

@@ -2,7 +2,8 @@
 pub mod Steps
 pub mod News
 pub mod Kept
-pub mod Pending
+pub mod Requeuing
+pub mod Holding
 pub mod Live
 pub mod Entries
 pub mod Written

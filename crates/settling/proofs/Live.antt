@@ -8,7 +8,7 @@ use Prim.Native.Nat.{ℕ, zero, suc, _≤_, _<_}
 use native.Mathlib.Omega.{arith}
 use lib.Dec.{T}
 use Rattle.model.specs.State.{base, State, edge, near, below}
-use Rattle.model.specs.Moves.{Run, at, part, rise, marry, chosen, drawn, draw, promote, due}
+use Rattle.model.specs.Moves.{Run, lifted, part, rise, marry, chosen, drawn, draw, promote, due}
 use Rattle.model.proofs.Tests.{eq?, holds?, true-T}
 use Rattle.model.proofs.Lists.{upd-same, upd-other}
 use Rattle.theory.proofs.Loops.{scanUpto}
@@ -72,7 +72,7 @@ module _ (i v : ℕ) (p : ℕ → Bool) where
   live-promote words u r q o l k m b h =
       let s : State = r .state in
       let a : SameEdges s (rise i u (part u s)) = lift-kept s q o i u l m k in
-      live-draw words u (at r (rise i u (part u s))) (a .proper) (a .ordered) (omega (arith, lift-below s q o i u l)) (live-lift u s q o l h)
+      live-draw words u (lifted i u r) (a .proper) (a .ordered) (omega (arith, lift-below s q o i u l)) (live-lift u s q o l h)
 
   live-visited : (words : List ℕ) (w : ℕ) (r : Run) → Proper (r .state) → Ordered (r .state) → w < r .state .n → i ≤ base .top
       → Live i v p (r .state) → Live i v p (visited base words i w r .state)

@@ -9,7 +9,7 @@ use lib.Dec.{T}
 use lib.ListN.{length, getD}
 use Rattle.model.specs.Counting.{listed}
 use Rattle.model.specs.State.{Rules, State, near}
-use Rattle.model.specs.Moves.{Run, at, part, rise, marry, place, chosen, drawn, draw, promote, due, scanFrom}
+use Rattle.model.specs.Moves.{Run, lifted, handed, leave, join, parting, part, rise, marry, handOver, fall, place, chosen, drawn, draw, promote, due, scanFrom}
 use Rattle.model.proofs.Tests.{holds?, T-true, T-false}
 use Rattle.theory.proofs.Loops.{scanStep, scanUpto, scanFrom-loop}
 use Rattle.settling.specs.Settling.{visited}
@@ -17,18 +17,46 @@ use Rattle.settling.specs.Settling.{visited}
 -- runs that differ in their new pairs alone
 pub record SameRun (r q : Run) : Type 0 where
   pub state : r .state ≡ q .state
+  pub queues : r .queues ≡ q .queues
   pub draws : r .draws ≡ q .draws
   pub falls : r .falls ≡ q .falls
 
 pub same-then : {r q p : Run} → SameRun r q → SameRun q p → SameRun r p
-same-then a b = record { state = a .state ∙ b .state; draws = a .draws ∙ b .draws; falls = a .falls ∙ b .falls }
+same-then a b = record {
+  state = a .state ∙ b .state;
+  queues = a .queues ∙ b .queues;
+  draws = a .draws ∙ b .draws;
+  falls = a .falls ∙ b .falls;
+}
 
 pub same-of : {r q : Run} → r ≡ q → SameRun r q
-same-of e = record { state = ap (λ (x : Run). x .state) e; draws = ap (λ (x : Run). x .draws) e; falls = ap (λ (x : Run). x .falls) e }
+same-of e = record {
+  state = ap (λ (x : Run). x .state) e;
+  queues = ap (λ (x : Run). x .queues) e;
+  draws = ap (λ (x : Run). x .draws) e;
+  falls = ap (λ (x : Run). x .falls) e;
+}
 
--- the run on another state
-pub at-same : {r q : Run} → SameRun r q → (f : State → State) → SameRun (at r (f (r .state))) (at q (f (q .state)))
-at-same e f = record { state = ap f (e .state); draws = e .draws; falls = e .falls }
+-- the first half of a promotion, of a taking, and of a fall
+lifted-same : (i u : ℕ) {r q : Run} → SameRun r q → SameRun (lifted i u r) (lifted i u q)
+lifted-same i u e = record {
+  state = ap (λ (s : State). rise i u (part u s)) (e .state);
+  queues = λ k. parting (e .state k) u (e .queues k);
+  draws = e .draws;
+  falls = e .falls;
+}
+
+pub handed-same : (i v : ℕ) {r q : Run} → SameRun r q → SameRun (handed i v r) (handed i v q)
+handed-same i v e = record { state = ap (handOver i v) (e .state); queues = ap (leave v) (e .queues); draws = e .draws; falls = e .falls }
+
+pub fall-same : (i v : ℕ) {r q : Run} → SameRun r q → SameRun (fall i v r) (fall i v q)
+unfolding fall
+fall-same i v {r} e = record {
+  state = λ k. fall i v (record { state = e .state k; queues = r .queues; news = r .news; draws = r .draws; falls = r .falls }) .state;
+  queues = ap (join v i) (e .queues);
+  draws = e .draws;
+  falls = ap suc (e .falls);
+}
 
 module _ (words : List ℕ) (i u : ℕ) {r q : Run} (e : SameRun r q) where
   pub chosen-same : chosen words i u r ≡ chosen words i u q
@@ -40,13 +68,14 @@ module _ (words : List ℕ) (i u : ℕ) {r q : Run} (e : SameRun r q) where
   unfolding draw drawn
   draw-same = record {
     state = λ k. marry u (chosen-same k) (rise i (chosen-same k) (part (chosen-same k) (e .state k)));
+    queues = λ k. parting (e .state k) (chosen-same k) (e .queues k);
     draws = ap suc (e .draws);
     falls = e .falls;
   }
 
 pub promote-same : (words : List ℕ) (i u : ℕ) {r q : Run} → SameRun r q → SameRun (promote words i u r) (promote words i u q)
 unfolding promote
-promote-same words i u e = draw-same words i u (at-same e (λ s. rise i u (part u s)))
+promote-same words i u e = draw-same words i u (lifted-same i u e)
 
 -- A vertex's turn in the scan, and the turns of the vertices below m that pass p.
 module _ (R : Rules) (words : List ℕ) (i : ℕ) where

@@ -1,117 +1,91 @@
--- The pick as one pass over the row of the vertices that may be pending: what it has found before v, a step of it, and its end.
--- Assumes nothing.
-use mathlib.Core.Path.{_≡_, refl, sym, _∙_, subst}
-use mathlib.Core.Logic.{inl, inr}
-use mathlib.Core.List.{List}
+-- The pick as one pass over the queue, by rank: what it has found before place j, a step of it, and its end. Assumes nothing.
+use mathlib.Core.Path.{_≡_, refl, sym, ap, _∙_, subst}
+use mathlib.Core.Logic.{_≢_, inl, inr}
+use mathlib.Core.List.{List, [], _∷_}
 use Prim.Native.Nat.{ℕ, zero, suc, _+_, _-_, _≤_, _<_}
 use native.Mathlib.Omega.{arith}
-use Rattle.model.specs.State.{base, State}
-use Rattle.model.specs.Bytes.{noMate, rankAt, mateAt, read}
+use lib.ListN.{length, getD, drop}
+use Rattle.model.specs.Lists.{All}
 use Rattle.model.specs.Moves.{pick, none, found}
-use Rattle.model.proofs.Tests.{eq?, le?}
-use Rattle.model.proofs.Limits.{mateEntry-free}
-use Rattle.theory.proofs.Takings.{pending-of}
+use Rattle.model.proofs.Tests.{eq?}
+use Rattle.theory.specs.Waiting.{ofRank, queuesIn}
+use Rattle.theory.proofs.Arrivals.{rank-yes, rank-no, rank-none}
 use Rattle.theory.proofs.Loops.{pick-nothing, pick-found}
-use Rattle.bitset.specs.Row.{Next}
-use Rattle.moves.specs.Proper.{Proper, Held}
-use Rattle.moves.proofs.Held.{held-rank, held-mate, held-small}
-use Rattle.moves.proofs.Pairs.{entry-free as entry-alone}
-use Rattle.settling.specs.Settling.{HoldsPending}
 
--- `at` is the first free vertex of rank best
-pub record FirstFree (s : State) (best at : ℕ) : Type 0 where
-  pub inside : at < s .n
-  pub free : s .mate at ≡ at
-  pub rank : s .rank at ≡ best
-  pub lower : (w : ℕ) → w < at → s .mate w ≡ w → s .rank w < best
+-- `at` is the first of rank best, at a place before j
+pub record First (rank : ℕ → ℕ) (l : List ℕ) (best at j : ℕ) : Type 0 where
+  pub place : ℕ
+  pub inside : place < j
+  pub there : getD l place 0 ≡ at
+  pub ranked : rank at ≡ best
+  pub before : (x : ℕ) → x < place → rank (getD l x 0) < best
 
--- what the pass has found before v: no free vertex there has a rank above best, and `at` is the first of rank best, if best is not 0
-pub record Best (s : State) (best at v : ℕ) : Type 0 where
-  pub high : (w : ℕ) → w < v → w < s .n → s .mate w ≡ w → s .rank w ≤ best
-  pub is : 1 ≤ best → FirstFree s best at
+-- before place j no vertex has a rank above best, and `at` is the first of rank best, if best is not 0
+pub record Best (rank : ℕ → ℕ) (l : List ℕ) (best at j : ℕ) : Type 0 where
+  pub high : (x : ℕ) → x < j → rank (getD l x 0) ≤ best
+  pub is : 1 ≤ best → First rank l best at j
 
-module _ (row : List ℕ) (s : State) (h : HoldsPending row s) where
-  -- the row holds every free vertex of a rank from 1 on, so those that a step passes over have rank 0
-  passed-by : (from r : ℕ) → Next row from r → (w : ℕ) → from ≤ w → w < r → w < s .n → s .mate w ≡ w → (k : ℕ) → s .rank w ≡ k → k ≡ 0
-  passed-by from r n w a b l f zero e = refl
-  passed-by from r n w a b l f (suc i) e = absurd (n .none w a b (h .holds w i l (pending-of s i w f e)))
+module _ (rank : ℕ → ℕ) (l : List ℕ) where
+  pub best-none : Best rank l 0 0 0
+  best-none = record { high = λ x b. absurd (omega arith); is = λ k. absurd (omega arith) }
 
-  passed : (from r : ℕ) → Next row from r → (w : ℕ) → from ≤ w → w < r → w < s .n → s .mate w ≡ w → s .rank w ≡ 0
-  passed from r n w a b l f = passed-by from r n w a b l f (s .rank w) refl
+  -- a fact about the places before j, and about j, is one about those before j + 1
+  onward : (F : ℕ → Type 0) (j : ℕ) → ((x : ℕ) → x < j → F (rank (getD l x 0))) → F (rank (getD l j 0)) → (x : ℕ) → x < j + 1 → F (rank (getD l x 0))
+  onward F j g k x b = elim (eq? x j) [ inl e ↦ subst (λ (y : ℕ). F (rank (getD l y 0))) (sym e) k | inr d ↦ g x (omega arith) ]
 
-  pub best-none : (r : ℕ) → Next row 0 r → Best s 0 0 r
-  best-none r n = record { high = λ w b l f. omega (arith, passed 0 r n w (omega arith) b l f); is = λ k. absurd (omega arith) }
-
-  -- a bound on the ranks of the free vertices before v, and of v, reaches to the next member
-  onward : (m v r : ℕ) → ((w : ℕ) → w < v → w < s .n → s .mate w ≡ w → s .rank w ≤ m) → (s .mate v ≡ v → s .rank v ≤ m)
-      → Next row (v + 1) r → (w : ℕ) → w < r → w < s .n → s .mate w ≡ w → s .rank w ≤ m
-  onward m v r g k n w b l f = elim (le? (v + 1) w) [
-    | inl a ↦ omega (arith, passed (v + 1) r n w a b l f)
-    | inr a ↦ elim (eq? w v) [
-      | inl e ↦ subst (λ (x : ℕ). s .mate x ≡ x → s .rank x ≤ m) (sym e) k f
-      | inr d ↦ g w (omega arith) l f
-    ]
-  ]
-
-  -- v is not free, or of no higher rank
-  pub best-same : (best at v r : ℕ) → Best s best at v → (s .mate v ≡ v → s .rank v ≤ best) → Next row (v + 1) r → Best s best at r
-  best-same best at v r g k n = record { high = onward best v r (g .high) k n; is = g .is }
-
-  -- v is free, and of a higher rank
-  pub best-more : (best at v r : ℕ) → Best s best at v → v < s .n → s .mate v ≡ v → best < s .rank v → Next row (v + 1) r
-      → Best s (s .rank v) v r
-  best-more best at v r g l f k n = record {
-    high = onward (s .rank v) v r (λ w b i e. omega (arith, g .high w b i e)) (λ e. omega arith) n;
-    is = λ z. record { inside = l; free = f; rank = refl; lower = λ w b e. omega (arith, g .high w b (omega arith) e) };
+  -- the vertex at j has no higher rank
+  pub best-same : {best at j : ℕ} → Best rank l best at j → rank (getD l j 0) ≤ best → Best rank l best at (j + 1)
+  best-same {best} {at} {j} g k = record {
+    high = onward (λ r. r ≤ best) j (g .high) k;
+    is = λ p. let f = g .is p in record {
+      place = f .place;
+      inside = omega (arith, f .inside);
+      there = f .there;
+      ranked = f .ranked;
+      before = f .before;
+    };
   }
 
+  -- it has a higher rank
+  pub best-more : {best at j : ℕ} → Best rank l best at j → best < rank (getD l j 0) → Best rank l (rank (getD l j 0)) (getD l j 0) (j + 1)
+  best-more {best} {at} {j} g k = record {
+    high = onward (λ r. r ≤ rank (getD l j 0)) j (λ x b. omega (arith, g .high x b)) (omega arith);
+    is = λ p. record {
+      place = j;
+      inside = omega arith;
+      there = refl;
+      ranked = refl;
+      before = λ x b. omega (arith, g .high x b);
+    };
+  }
+
+-- what the queue has of the rank of its first vertex of that rank
+first-of : (rank : ℕ → ℕ) (x : ℕ) (l : List ℕ) (p : ℕ) → p < length l → rank (getD l p 0) ≡ x → ((y : ℕ) → y < p → rank (getD l y 0) ≢ x)
+    → ofRank rank x l ≡ getD l p 0 ∷ ofRank rank x (drop (suc p) l)
+first-of rank x [] p b e h = absurd (omega arith)
+first-of rank x (v ∷ l) zero b e h = rank-yes rank x v l e
+first-of rank x (v ∷ l) (suc p) b e h =
+    rank-no rank x v l (h 0 (omega arith)) ∙ first-of rank x l p (omega arith) e (λ y c. h (suc y) (omega arith))
+
+-- a fact about every place is one about every element
+pub all-places : (P : ℕ → Type 0) (l : List ℕ) → ((y : ℕ) → y < length l → P (getD l y 0)) → All P l
+all-places P [] h = tt
+all-places P (v ∷ l) h = (h 0 (omega arith), all-places P l (λ y b. h (suc y) (omega arith)))
+
 -- the end of the pass
-pub best-nothing : (s : State) (best at v m : ℕ) → Best s best at v → s .n ≤ v → best ≡ 0 → pick m s ≡ none
-best-nothing s best at v m g l e = pick-nothing m s (λ w b f. omega (arith, g .high w (omega arith) b f))
+module _ {rank : ℕ → ℕ} {l : List ℕ} {best at j : ℕ} (g : Best rank l best at j) (e : j ≡ length l) (m : ℕ) where
+  -- nobody has a rank above best
+  pub none-above : (i : ℕ) → best ≤ i → queuesIn rank l i ≡ []
+  none-above i b = rank-none rank (suc i) l (all-places (λ v. rank v ≢ suc i) l (λ y c f. omega (arith, g .high y (omega arith))))
 
-pub best-found : (s : State) (best at v : ℕ) → Proper s → Best s best at v → s .n ≤ v → 1 ≤ best
-    → pick (suc (base .top)) s ≡ found (best - 1) at
-best-found s best at v p g l k =
-    let a : FirstFree s best at = g .is k in
-    pick-found (suc (base .top)) (best - 1) at s (omega (arith, p .ranks at, a .rank)) (a .inside) (a .free) (omega (arith, a .rank))
-    (λ w b f. omega (arith, g .high w (omega arith) b f))
-    (λ w b f e. omega (arith, a .lower w b f))
+  pub best-nothing : best ≡ 0 → pick m (queuesIn rank l) ≡ none
+  best-nothing z = pick-nothing m (queuesIn rank l) (λ i b. none-above i (omega arith))
 
--- ranks are small
-pub best-small : (s : State) (best at v : ℕ) → Proper s → Best s best at v → best ≤ 4
-unfolding base
-best-small s best at v p g = elim (le? 1 best) [ inl k ↦ omega (arith, p .ranks at, g .is k .rank) | inr k ↦ omega arith ]
-
--- A turn of the pass on the bytes, at v, which leads to r.
-pub record Turn (bs row : List ℕ) (best at v r : ℕ) : Type 0 where
-  pub held : Held bs
-  pub pends : HoldsPending row (read bs)
-  pub found : Best (read bs) best at v
-  pub inside : v < read bs .n
-  pub next : Next row (v + 1) r
-
-module _ {bs row : List ℕ} {best at v r : ℕ} (t : Turn bs row best at v r) where
-  small : v < 256
-  small = held-small (t .held) v (t .inside)
-
-  -- the entry for a mate says whether the vertex is free
-  free-entry : read bs .mate v ≡ v → mateAt bs v ≡ noMate
-  free-entry f = held-mate (t .held) v small ∙ mateEntry-free (read bs) v f
-
-  entry-free : mateAt bs v ≡ noMate → read bs .mate v ≡ v
-  entry-free e = entry-alone (read bs) (t .held .proper) v (t .inside) (sym (held-mate (t .held) v small) ∙ e)
-
-  rank-is : rankAt bs v ≡ read bs .rank v
-  rank-is = held-rank (t .held) v small
-
-  -- v is mated, or of no higher rank: what was found stands
-  pub turn-same : {best₁ at₁ : ℕ} → best₁ ≡ best → at₁ ≡ at → (mateAt bs v ≡ noMate → rankAt bs v ≤ best) → Best (read bs) best₁ at₁ r
-  turn-same p q m =
-      rw (p, q)
-      (best-same row (read bs) (t .pends) best at v r (t .found) (λ f. omega (arith, rank-is, m (free-entry f))) (t .next))
-
-  -- v is free and of a higher rank
-  pub turn-more : {best₁ at₁ : ℕ} → best₁ ≡ rankAt bs v → at₁ ≡ v → best < rankAt bs v → mateAt bs v ≡ noMate → Best (read bs) best₁ at₁ r
-  turn-more p q m f =
-      rw (p, q, rank-is)
-      (best-more row (read bs) (t .pends) best at v r (t .found) (t .inside) (entry-free f) (omega (arith, rank-is)) (t .next))
+  pub best-found : 1 ≤ best → best ≤ m → pick m (queuesIn rank l) ≡ found (best - 1) at
+  best-found k b =
+      let f : First rank l best at j = g .is k in
+      let r : rank (getD l (f .place) 0) ≡ suc (best - 1) = ap rank (f .there) ∙ f .ranked ∙ omega arith in
+      pick-found m (best - 1) at (ofRank rank (suc (best - 1)) (drop (suc (f .place)) l)) (queuesIn rank l) (omega arith)
+      (λ i c d. none-above i (omega arith))
+      (first-of rank (suc (best - 1)) l (f .place) (omega (arith, f .inside)) r (λ y c z. omega (arith, f .before y c))
+      ∙ ap (λ (v : ℕ). v ∷ ofRank rank (suc (best - 1)) (drop (suc (f .place)) l)) (f .there))

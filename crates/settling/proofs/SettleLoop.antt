@@ -5,30 +5,34 @@ use mathlib.Core.List.{List}
 use Prim.Native.Nat.{ℕ, zero, suc, _+_, _*_, _≤_, _<_}
 use native.Mathlib.Numerals.{add-one}
 use native.Mathlib.Omega.{arith}
+use lib.ListN.{length}
 use Rattle.model.specs.State.{base, State}
 use Rattle.model.specs.Bytes.{sizeAt, read, write}
 use Rattle.model.specs.Moves.{Run, Found, none, found, take, pick, settleIn, settle}
+use Rattle.theory.specs.Waiting.{marks, queuesIn}
+use Rattle.theory.proofs.Queues.{Queued}
 use Rattle.theory.proofs.Takings.{Highest, pick-highest}
 use Rattle.theory.proofs.Settling.{settle-step, settle-rest}
 use Rattle.moves.specs.Proper.{Proper, Ordered, Held}
-use Rattle.moves.proofs.Held.{reads-as, held-of, held-size}
-use Rattle.settling.specs.declared.Tally.{Tally}
-use Rattle.settling.specs.Settling.{running, HoldsPending, Room, Left, takeLimit}
+use Rattle.moves.proofs.Held.{held-of, held-size}
+use Rattle.settling.specs.declared.tally.Tally.{Tally}
+use Rattle.settling.specs.Settling.{queueIn, running, HoldsWaiting, Room, Left, takeLimit}
 use Rattle.settling.proofs.News.{same-then}
+use Rattle.settling.proofs.Written.{levels-as, left-run}
 use Rattle.settling.proofs.Kept.{SameEdges, SameRun, take-kept, take-room, take-same}
 
--- Runs that differ in their new pairs alone settle alike: the pick sees the state alone.
+-- Runs that differ in their new pairs alone settle alike: the pick sees the queues alone.
 pub settle-same : (words : List ℕ) (f : ℕ) (r q : Run) → SameRun r q → SameRun (settleIn base words f r) (settleIn base words f q)
 unfolding settleIn
 settle-same words zero r q s = s
-settle-same words (suc f) r q s = go (settle-same words f) (pick (suc (base .top)) (r .state)) refl
+settle-same words (suc f) r q s = go (settle-same words f) (pick (suc (base .top)) (r .queues)) refl
   where
     go : ((a b : Run) → SameRun a b → SameRun (settleIn base words f a) (settleIn base words f b))
-        → (x : Found) → pick (suc (base .top)) (r .state) ≡ x → SameRun (settleIn base words (suc f) r) (settleIn base words (suc f) q)
+        → (x : Found) → pick (suc (base .top)) (r .queues) ≡ x → SameRun (settleIn base words (suc f) r) (settleIn base words (suc f) q)
     go ih none e =
-        rw (settle-rest base words (suc f) r e, settle-rest base words (suc f) q (ap (pick (suc (base .top))) (sym (s .state)) ∙ e)) s
+        rw (settle-rest base words (suc f) r e, settle-rest base words (suc f) q (ap (pick (suc (base .top))) (sym (s .queues)) ∙ e)) s
     go ih (found i v) e =
-        rw (settle-step base words f i v r e, settle-step base words f i v q (ap (pick (suc (base .top))) (sym (s .state)) ∙ e))
+        rw (settle-step base words f i v r e, settle-step base words f i v q (ap (pick (suc (base .top))) (sym (s .queues)) ∙ e))
         (ih (take base words i v r) (take base words i v q) (take-same words i v r q s))
 
 -- what a taking asks of the vertex picked
@@ -38,18 +42,21 @@ pub record Takable (s : State) (i v : ℕ) : Type 0 where
   pub rank : s .rank v ≡ suc i
   pub level : i ≤ base .top
 
-pub taking-of : (s : State) (i v : ℕ) → Proper s → pick (suc (base .top)) s ≡ found i v → Takable s i v
-taking-of s i v p e =
-    let h : Highest s (suc (base .top)) (found i v) = subst (Highest s (suc (base .top))) e (pick-highest s (suc (base .top))) in
+pub taking-of : (s : State) (places : List ℕ) (t : Tally) (i v : ℕ) → Proper s → HoldsWaiting places t s
+    → pick (suc (base .top)) (queuesIn (s .rank) (queueIn places t)) ≡ found i v → Takable s i v
+taking-of s places t i v p w e =
+    let q : Queued (s .n) (marks s) (queuesIn (s .rank) (queueIn places t)) = record { all = queueIn places t; lists = w .lists; queues = refl } in
+    let h : Highest s (suc (base .top)) (found i v) = subst (Highest s (suc (base .top))) e (pick-highest s _ q (suc (base .top))) in
     record { inside = h .0; free = h .1 .0; rank = h .1 .1 .0; level = omega (arith, p .ranks v, h .1 .1 .0) }
 
 -- Before each taking: `left` more takings from the bytes and the tally on lead to where the settling of r leads, and the tally has room
 -- for them.
-pub record TakingsLeft (words : List ℕ) (r : Run) (bs row : List ℕ) (left : ℕ) (t : Tally) : Type 0 where
+pub record TakingsLeft (words : List ℕ) (r : Run) (width : ℕ) (bs places : List ℕ) (left : ℕ) (t : Tally) : Type 0 where
   pub held : Held bs
   pub ordered : Ordered (read bs)
-  pub pends : HoldsPending row (read bs)
-  pub ahead : SameRun (settleIn base words left (running bs t)) (settle base words r)
+  pub holds : HoldsWaiting places t (read bs)
+  pub long : length places ≡ width
+  pub ahead : SameRun (settleIn base words left (running bs places t)) (settle base words r)
   pub draws : t .draws + 257 * left ≤ 300000
   pub falls : t .falls + left ≤ 300000
 
@@ -62,57 +69,59 @@ module _ {bs : List ℕ} (h : Held bs) (n top : ℕ) (e : n ≡ sizeAt bs) (f : 
   unfolding base
   takings-few = rw takings (omega (arith, h .proper .few))
 
-pub going-start : (words bs row : List ℕ) (left : ℕ) (t : Tally) → Held bs → Ordered (read bs) → HoldsPending row (read bs) → Room 1 0 t
-    → left ≡ read bs .n * suc (base .top) → TakingsLeft words (running bs t) bs row left t
+pub going-start : (words bs places : List ℕ) (left : ℕ) (t : Tally) → Held bs → Ordered (read bs) → HoldsWaiting places t (read bs) → Room 1 0 t
+    → left ≡ read bs .n * suc (base .top) → TakingsLeft words (running bs places t) (length places) bs places left t
 unfolding settle base
-going-start words bs row left t h o w m e = record {
+going-start words bs places left t h o w m e = record {
   held = h;
   ordered = o;
-  pends = w;
-  ahead = rw e (record { state = refl; draws = refl; falls = refl });
+  holds = w;
+  long = refl;
+  ahead = rw e (record { state = refl; queues = refl; draws = refl; falls = refl });
   draws = omega (arith, m .draws, h .proper .few);
   falls = omega (arith, m .falls, h .proper .few);
 }
 
-module _ {words : List ℕ} {r : Run} {bs row : List ℕ} {left : ℕ} {t : Tally} (g : TakingsLeft words r bs row left t) where
+module _ {words : List ℕ} {r : Run} {width : ℕ} {bs places : List ℕ} {left : ℕ} {t : Tally} (g : TakingsLeft words r width bs places left t) where
   pub going-room : Room takeLimit takeLimit t
   going-room = record { draws = omega (arith, g .draws); falls = omega (arith, g .falls) }
 
   -- where no taking follows, the settling is done
-  going-left : settleIn base words left (running bs t) ≡ running bs t → Left (settle base words r) bs row t
+  going-left : settleIn base words left (running bs places t) ≡ running bs places t → Left (settle base words r) bs places t
   going-left e =
-      let s : SameRun (running bs t) (settle base words r) = rw e at (g .ahead) in
+      let s : SameRun (running bs places t) (settle base words r) = rw e at (g .ahead) in
       record {
         rack = g .held .written ∙ ap write (s .state);
+        queues = levels-as places t (sym (s .state)) ∙ s .queues;
         draws = s .draws;
         falls = s .falls;
-        pends = subst (HoldsPending row) (s .state) (g .pends);
+        holds = subst (HoldsWaiting places t) (s .state) (g .holds);
       }
 
-  pub going-rest : pick (suc (base .top)) (read bs) ≡ none → Left (settle base words r) bs row t
-  going-rest e = going-left (settle-rest base words left (running bs t) e)
+  pub going-rest : pick (suc (base .top)) (queuesIn (read bs .rank) (queueIn places t)) ≡ none → Left (settle base words r) bs places t
+  going-rest e = going-left (settle-rest base words left (running bs places t) e)
 
-  pub going-used : left ≡ 0 → Left (settle base words r) bs row t
+  pub going-used : left ≡ 0 → Left (settle base words r) bs places t
   unfolding settleIn
   going-used e = going-left (rw e refl)
 
   -- a taking
-  pub going-on : {i v : ℕ} {bs₁ row₁ : List ℕ} {t₁ : Tally} → pick (suc (base .top)) (read bs) ≡ found i v → (k : ℕ) → left ≡ suc k
-      → Left (take base words i v (running bs t)) bs₁ row₁ t₁ → TakingsLeft words r bs₁ row₁ k t₁
-  going-on {i} {v} {bs₁} {row₁} {t₁} e k n l =
-      let q : Run = take base words i v (running bs t) in
+  pub going-on : {i v : ℕ} {bs₁ places₁ : List ℕ} {t₁ : Tally} → pick (suc (base .top)) (queuesIn (read bs .rank) (queueIn places t)) ≡ found i v → (k : ℕ) → left ≡ suc k
+      → Left (take base words i v (running bs places t)) bs₁ places₁ t₁ → length places₁ ≡ length places → TakingsLeft words r width bs₁ places₁ k t₁
+  going-on {i} {v} {bs₁} {places₁} {t₁} e k n l same-long =
+      let q : Run = take base words i v (running bs places t) in
       let p : Proper (read bs) = g .held .proper in
-      let a : Takable (read bs) i v = taking-of (read bs) i v p e in
-      let h : SameEdges (read bs) (q .state) = take-kept words i v (running bs t) p (g .ordered) (a .inside) (a .rank) (a .level) in
+      let a : Takable (read bs) i v = taking-of (read bs) places t i v p (g .holds) e in
+      let h : SameEdges (read bs) (q .state) = take-kept words i v (running bs places t) p (g .ordered) (a .inside) (a .rank) (a .level) in
       let m : (q .draws ≤ t .draws + 257) × (q .falls ≤ suc (t .falls)) =
-      take-room words i v (running bs t) p (g .ordered) (a .inside) (a .rank) (a .level) in
-      let z : read bs₁ ≡ q .state = reads-as bs₁ (q .state) (l .rack) (h .proper) in
-      let s : SameRun (running bs₁ t₁) q = record { state = z; draws = l .draws; falls = l .falls } in
+      take-room words i v (running bs places t) p (g .ordered) (a .inside) (a .rank) (a .level) in
+      let s : SameRun (running bs₁ places₁ t₁) q = left-run l (h .proper) in
       record {
         held = held-of bs₁ (q .state) (l .rack) (h .proper);
-        ordered = subst Ordered (sym z) (h .ordered);
-        pends = subst (HoldsPending row₁) (sym z) (l .pends);
-        ahead = same-then (settle-same words k (running bs₁ t₁) q s) (rw (n, settle-step base words k i v (running bs t) e) at (g .ahead));
+        ordered = subst Ordered (sym (s .state)) (h .ordered);
+        holds = subst (HoldsWaiting places₁ t₁) (sym (s .state)) (l .holds);
+        long = same-long ∙ g .long;
+        ahead = same-then (settle-same words k (running bs₁ places₁ t₁) q s) (rw (n, settle-step base words k i v (running bs places t) e) at (g .ahead));
         draws = omega (arith, l .draws, m .0, g .draws);
         falls = omega (arith, l .falls, m .1, g .falls);
       }

@@ -9,7 +9,7 @@ use lib.Dec.{T, leb, leb→le}
 use lib.ListN.{length, getD}
 use Rattle.model.specs.Counting.{listed}
 use Rattle.model.specs.State.{base, State, edge, near, below, phi}
-use Rattle.model.specs.Moves.{Run, at, part, rise, marry, handOver, place, chosen, drawn, draw, promote, due}
+use Rattle.model.specs.Moves.{Run, lifted, part, rise, marry, handOver, place, chosen, drawn, draw, promote, due}
 use Rattle.model.specs.Change.{reown}
 use Rattle.model.proofs.Tests.{holds?, T-true, T-false, and-left, and-right}
 use Rattle.model.proofs.Prefix.{count-ext}
@@ -148,7 +148,7 @@ unfolding promote rise part
 promote-kept words i u r p o l k h b =
     let s : State = r .state in
     let a : SameEdges s (rise i u (part u s)) = lift-kept s p o i u l h k in
-    kept-then a (draw-kept words i u (at r (rise i u (part u s))) (a .proper) (a .ordered) l k (omega (arith, lift-below s p o i u l)))
+    kept-then a (draw-kept words i u (lifted i u r) (a .proper) (a .ordered) l k (omega (arith, lift-below s p o i u l)))
 
 pub visited-kept : (words : List ℕ) (i w : ℕ) (r : Run) → Proper (r .state) → Ordered (r .state) → w < r .state .n → i ≤ base .top
     → SameEdges (r .state) (visited base words i w r .state)

@@ -1,114 +1,183 @@
--- A taking on bytes: the hand-over, then the draw, or the fall and the scan. What each asks, and what is left in the end. Assumes nothing.
-use mathlib.Core.Path.{_≡_, sym, ap, _∙_, subst}
+-- A taking on bytes: v leaves the queue and hands over, then it draws, or it falls, joins again, and its row is gone through. What each asks,
+-- and what is left in the end. Assumes nothing.
+use mathlib.Core.Path.{_≡_, refl, sym, ap, _∙_, subst}
 use mathlib.Core.List.{List}
 use Prim.Native.Nat.{ℕ, suc, _≤_, _<_}
 use native.Mathlib.Omega.{arith}
-use Rattle.model.specs.State.{base, State, below}
+use lib.Dec.{T}
+use lib.ListN.{length, take as first}
+use Rattle.model.specs.State.{Rules, base, State, below}
 use Rattle.model.specs.Bytes.{read, write}
-use Rattle.model.specs.Moves.{at, handOver, fall, draw, scanFrom, take}
+use Rattle.model.specs.Moves.{Run, join, without, handed, handOver, fall, draw, scan, scanFrom, take}
+use Rattle.model.proofs.Counting.{count-some}
+use Rattle.model.proofs.Lists.{listed-none}
+use Rattle.theory.specs.Waiting.{queuesIn, joinQueue}
 use Rattle.theory.proofs.Matching.{base-pos}
 use Rattle.layout.specs.Rows.{degreeAt}
 use Rattle.moves.specs.Proper.{Ordered, Held, RowBelow, ranked}
-use Rattle.moves.proofs.Held.{reads-as, held-of}
+use Rattle.moves.proofs.Held.{reads-as, held-of, held-small, held-degree}
 use Rattle.moves.proofs.Keeps.{hand-row, ranked-row}
-use Rattle.settling.specs.Settling.{running, HoldsPending, Left, drawLimit, takeLimit}
-use Rattle.settling.specs.declared.Tally.{Tally}
+use Rattle.settling.specs.Settling.{queueIn, running, HoldsWaitingBut, HoldsWaiting, Requeued, Falling, Left, drawLimit, takeLimit}
+use Rattle.settling.specs.declared.tally.Tally.{Tally}
 use Rattle.settling.proofs.Steps.{hand-kept, fall-kept}
-use Rattle.settling.proofs.News.{scanFrom-same}
+use Rattle.settling.proofs.News.{draw-same, fall-same, scanFrom-same}
 use Rattle.settling.proofs.Kept.{SameEdges, SameRun, take-draws, take-falls}
-use Rattle.settling.proofs.Pending.{pending-but, pending-handed, pending-fallen}
+use Rattle.settling.proofs.Holding.{left-holds, left-levels, fallen-holds, fallen-levels}
 use Rattle.settling.proofs.Entries.{row-degree}
-use Rattle.settling.proofs.Written.{Draws, draws-of}
-use Rattle.settling.proofs.Scans.{left-same}
+use Rattle.settling.proofs.Written.{Draws, draws-of, levels-as, left-same}
 
--- what a fall of v from level i asks, but for the size of its row, and what the scan after it asks
-abbrev pub Falls : List ℕ → ℕ → ℕ → State → Type 0
-Falls b i v s = Held b × (((v < s .n) × (s .rank v ≡ suc i) × (i ≤ base .top)) × RowBelow i v s)
-
-abbrev pub Scans : List ℕ → ℕ → ℕ → List ℕ → ℕ → State → Type 0
-Scans b i v row d s = (Held b × Ordered s) × (((v < s .n) × (i ≤ base .top) × RowBelow i v s) × (HoldsPending row s × (d ≤ takeLimit)))
-
--- v, pending at level i, has handed its edges of that level on: bs before, b after
-pub record Handed (bs : List ℕ) (i v : ℕ) (b : List ℕ) : Type 0 where
+-- v, waiting at level i, has left the queue and handed its edges of that level on: bs, places and t before, b, places′ and t′ after
+pub record Handed (bs places : List ℕ) (t : Tally) (i v : ℕ) (b places′ : List ℕ) (t′ : Tally) : Type 0 where
   pub held : Held bs
   pub ordered : Ordered (read bs)
   pub inside : v < read bs .n
   pub free : read bs .mate v ≡ v
   pub rank : read bs .rank v ≡ suc i
   pub level : i ≤ base .top
+  pub holds : HoldsWaiting places t (read bs)
+  pub left : Requeued (without v (queueIn places t)) t places′ t′
+  pub long : length places′ ≡ length places
   pub bytes : b ≡ write (handOver i v (read bs))
 
-module _ {bs : List ℕ} {i v : ℕ} {b : List ℕ} (a : Handed bs i v b) where
+module _ {bs places : List ℕ} {t : Tally} {i v : ℕ} {b places′ : List ℕ} {t′ : Tally} (a : Handed bs places t i v b places′ t′) where
   handed-kept : SameEdges (read bs) (handOver i v (read bs))
   handed-kept = hand-kept (read bs) (a .held .proper) (a .ordered) i v (a .inside) (a .rank)
 
   handed-read : read b ≡ handOver i v (read bs)
   handed-read = reads-as b (handOver i v (read bs)) (a .bytes) (handed-kept .proper)
 
-  pub handed-held : Held b
-  handed-held = held-of b (handOver i v (read bs)) (a .bytes) (handed-kept .proper)
+  pub handed-held : Held b × Ordered (read b)
+  handed-held = (held-of b (handOver i v (read bs)) (a .bytes) (handed-kept .proper), subst Ordered (sym handed-read) (handed-kept .ordered))
 
   handed-row : RowBelow i v (handOver i v (read bs))
   handed-row = hand-row (read bs) (a .held .proper) i v (a .ordered) (a .rank)
 
-  pub handed-falls : Falls b i v (read b)
+  -- a hand-over changes no mate and no rank
+  handed-holds : HoldsWaitingBut v places′ t′ (handOver i v (read bs))
   unfolding handOver
-  handed-falls = subst (Falls b i v) (sym handed-read) (handed-held, ((a .inside, a .rank, a .level), handed-row))
+  handed-holds =
+      let h : HoldsWaitingBut v places′ t′ (read bs) = left-holds (a .long) (a .holds) (a .left) in
+      record { room = h .room; within = h .within; lists = h .lists; paired = h .paired }
+
+  pub handed-waits : HoldsWaitingBut v places′ t′ (read b)
+  handed-waits = subst (HoldsWaitingBut v places′ t′) (sym handed-read) handed-holds
+
+  pub handed-falls : (k : ℕ) → k ≡ degreeAt b v → Falling b i v k
+  unfolding handOver
+  handed-falls k e = record {
+    inside = omega (arith, a .inside, ap (λ (s : State). s .n) handed-read);
+    free = ap (λ (s : State). s .mate v) handed-read ∙ a .free;
+    rank = ap (λ (s : State). s .rank v) handed-read ∙ a .rank;
+    level = a .level;
+    row = subst (RowBelow i v) (sym handed-read) handed-row;
+    size = e;
+  }
 
   -- the row's size is what is held against the threshold
   handed-degree : degreeAt b v ≡ below (handOver i v (read bs)) v i
   handed-degree =
-      let f = handed-falls .1 in
-      row-degree b handed-held i v (f .0 .0) (f .1) ∙ ap (λ (s : State). below s v i) handed-read
+      let f : Falling b i v (degreeAt b v) = handed-falls (degreeAt b v) refl in
+      row-degree b (handed-held .0) i v (f .inside) (f .row) ∙ ap (λ (s : State). below s v i) handed-read
 
-  pub handed-draws : {row : List ℕ} (k d : ℕ) → k ≡ degreeAt b v → base .thr i ≤ degreeAt b v → HoldsPending row (read bs) → d ≤ drawLimit
-      → Draws b i v k row d (read b)
+  pub handed-draws : (k : ℕ) → k ≡ degreeAt b v → base .thr i ≤ degreeAt b v → t .draws ≤ drawLimit → Draws b i v k places′ t′ (read b)
   unfolding handOver
-  handed-draws k d g n w x =
-      let s : State = handOver i v (read bs) in
-      draws-of s (a .bytes) (handed-kept .proper) i v k d (
-        (handed-held, handed-kept .ordered),
+  handed-draws k g n x =
+      draws-of (handOver i v (read bs)) (a .bytes) (handed-kept .proper) i v k t′ (
+        (handed-held .0, handed-kept .ordered),
         (
-          (a .inside, a .level),
-          ((handed-row, omega (arith, base-pos i, handed-degree), g), (pending-but v (pending-handed (read bs) i v w), x)),
+          (a .inside, a .free, a .rank, a .level),
+          ((handed-row, omega (arith, base-pos i, handed-degree), g), (handed-holds, omega (arith, a .left .draws))),
         ),
       )
 
-  pub taken-draws : (words : List ℕ) {row d : List ℕ} (t : Tally) {r : Tally} → base .thr i ≤ degreeAt b v
-      → Left (draw words i v (running b t)) d row r → Left (take base words i v (running bs t)) d row r
-  taken-draws words {row} {d} t {r} n c =
-      rw (take-draws words i v (running bs t) (omega (arith, handed-degree)))
-      (subst (λ (s : State). Left (draw words i v (at (running bs t) s)) d row r) handed-read c)
-
-  fallen-kept : SameEdges (handOver i v (read bs)) (ranked v i (handOver i v (read bs)))
+  -- the run that goes on from there is the definition's
+  handed-run : SameRun (running b places′ t′) (handed i v (running bs places t))
   unfolding handOver
-  fallen-kept = fall-kept (handOver i v (read bs)) (handed-kept .proper) (handed-kept .ordered) i v (a .inside) (a .rank) handed-row
+  handed-run = record {
+    state = handed-read;
+    queues = levels-as places′ t′ handed-read ∙ left-levels (a .long) v (a .holds) (a .left);
+    draws = a .left .draws;
+    falls = a .left .falls;
+  }
 
-  -- the bytes after the fall
-  module _ {b₂ : List ℕ} (q : b₂ ≡ write (ranked v i (read b))) where
-    fallen-write : b₂ ≡ write (ranked v i (handOver i v (read bs)))
-    fallen-write = q ∙ ap (λ (s : State). write (ranked v i s)) handed-read
+  pub taken-draws : (words : List ℕ) {places″ d : List ℕ} {r : Tally} → base .thr i ≤ degreeAt b v
+      → Left (draw words i v (running b places′ t′)) d places″ r → Left (take base words i v (running bs places t)) d places″ r
+  taken-draws words n c =
+      rw (take-draws words i v (running bs places t) (omega (arith, handed-degree))) (left-same (draw-same words i v handed-run) c)
 
-    fallen-read : read b₂ ≡ ranked v i (handOver i v (read bs))
-    fallen-read = reads-as b₂ (ranked v i (handOver i v (read bs))) fallen-write (fallen-kept .proper)
+  pub taken-falls : (words : List ℕ) {places″ d : List ℕ} {r : Tally} → degreeAt b v < base .thr i
+      → Left (scanFrom base words i v (fall i v (running b places′ t′))) d places″ r → Left (take base words i v (running bs places t)) d places″ r
+  taken-falls words n c =
+      rw (take-falls words i v (running bs places t) (omega (arith, handed-degree)))
+      (left-same (scanFrom-same base words i v (fall-same i v handed-run)) c)
 
-    pub fallen-scans : {row : List ℕ} (d : ℕ) → HoldsPending row (read bs) → d ≤ takeLimit → Scans b₂ i v row d (read b₂)
-    unfolding handOver
-    fallen-scans {row} d w x =
-        let s : State = handOver i v (read bs) in
-        subst (Scans b₂ i v row d) (sym fallen-read) (
-          (held-of b₂ (ranked v i s) fallen-write (fallen-kept .proper), fallen-kept .ordered),
+-- v has fallen from level i and has joined the end of its new level: bs, places and t before, b, places′ and t′ after
+pub record Fallen (bs places : List ℕ) (t : Tally) (i v k : ℕ) (b places′ : List ℕ) (t′ : Tally) : Type 0 where
+  pub held : Held bs
+  pub ordered : Ordered (read bs)
+  pub falls : Falling bs i v k
+  pub holds : HoldsWaitingBut v places t (read bs)
+  pub joined : Requeued (joinQueue v i (queueIn places t)) t places′ t′
+  pub long : length places′ ≡ length places
+  pub bytes : b ≡ write (ranked v i (read bs))
+
+-- where v owns no edge, there is nobody to go through
+scanFrom-none : (R : Rules) (words : List ℕ) (i v : ℕ) (r : Run) → ((w : ℕ) → w < r .state .n → T (r .state .owns v w) → ⊥) → scanFrom R words i v r ≡ r
+unfolding scanFrom scan
+scanFrom-none R words i v r h = rw (listed-none (r .state .owns v) (r .state .n) h, scanFrom) refl
+
+-- what the scan after a fall asks
+abbrev pub Scans : List ℕ → ℕ → ℕ → List ℕ → Tally → State → Type 0
+Scans b i v places t s = (Held b × Ordered s) × (((v < s .n) × (i ≤ base .top) × RowBelow i v s) × (HoldsWaiting places t s × (t .draws ≤ takeLimit)))
+
+module _ {bs places : List ℕ} {t : Tally} {i v k : ℕ} {b places′ : List ℕ} {t′ : Tally} (a : Fallen bs places t i v k b places′ t′) where
+  fallen-kept : SameEdges (read bs) (ranked v i (read bs))
+  fallen-kept = fall-kept (read bs) (a .held .proper) (a .ordered) i v (a .falls .inside) (a .falls .rank) (a .falls .row)
+
+  fallen-read : read b ≡ ranked v i (read bs)
+  fallen-read = reads-as b (ranked v i (read bs)) (a .bytes) (fallen-kept .proper)
+
+  pub fallen-scans : t .draws ≤ takeLimit → Scans b i v places′ t′ (read b)
+  fallen-scans x =
+      subst (Scans b i v places′ t′) (sym fallen-read) (
+        (held-of b (ranked v i (read bs)) (a .bytes) (fallen-kept .proper), fallen-kept .ordered),
+        (
           (
-            (omega (arith, fallen-kept .size, a .inside), a .level, ranked-row s (handed-kept .proper) i v i handed-row),
-            (pending-fallen s i v (a .inside) (a .free) (a .rank) (pending-handed (read bs) i v w), x),
+            omega (arith, fallen-kept .size, a .falls .inside),
+            a .falls .level,
+            ranked-row (read bs) (a .held .proper) i v i (a .falls .row),
           ),
-        )
+          (fallen-holds (a .long) (a .holds) i (a .joined) (a .falls .inside) (a .falls .free), omega (arith, a .joined .draws)),
+        ),
+      )
 
-    pub taken-falls : (words : List ℕ) {row d : List ℕ} (t : Tally) {f r : Tally} → degreeAt b v < base .thr i
-        → (f .draws ≡ t .draws) × (f .falls ≡ suc (t .falls)) → Left (scanFrom base words i v (running b₂ f)) d row r
-        → Left (take base words i v (running bs t)) d row r
+  -- the run that goes on from there is the definition's
+  module _ (t₀ : Tally) (e : (t .draws ≡ t₀ .draws) × (t .falls ≡ suc (t₀ .falls)) × (t .waiting ≡ t₀ .waiting)) where
+    fallen-run : SameRun (running b places′ t′) (fall i v (running bs places t₀))
     unfolding fall ranked
-    taken-falls words t n e c =
-        let p : SameRun (running b₂ _) (fall i v (at (running bs t) (handOver i v (read bs)))) =
-        record { state = fallen-read; draws = e .0; falls = e .1 } in
-        rw (take-falls words i v (running bs t) (omega (arith, handed-degree))) (left-same (scanFrom-same base words i v p) c)
+    fallen-run = record {
+      state = fallen-read;
+      queues = levels-as places′ t′ fallen-read ∙ fallen-levels (a .long) (a .holds) i (a .joined) (a .falls .inside) (a .falls .free)
+          ∙ ap (λ (x : ℕ). join v i (queuesIn (read bs .rank) (first x places))) (e .2);
+      draws = omega (arith, a .joined .draws, e .0);
+      falls = omega (arith, a .joined .falls, e .1);
+    }
+
+    pub fallen-left : (words : List ℕ) {places″ d : List ℕ} {r : Tally} → Left (scanFrom base words i v (running b places′ t′)) d places″ r
+        → Left (scanFrom base words i v (fall i v (running bs places t₀))) d places″ r
+    fallen-left words c = left-same (scanFrom-same base words i v fallen-run) c
+
+    -- a row of none: there is nobody to go through
+    pub fallen-alone : (words : List ℕ) → k ≡ 0 → t .draws ≤ takeLimit → Left (scanFrom base words i v (fall i v (running bs places t₀))) b places′ t′
+    unfolding fall
+    fallen-alone words z x =
+        let g = fallen-scans x in
+        let alone : (w : ℕ) → w < read bs .n → T (read bs .owns v w) → ⊥ = λ w l o. omega (
+          arith,
+          z,
+          a .falls .size,
+          held-degree (a .held) v (held-small (a .held) v (a .falls .inside)),
+          count-some (read bs .owns v) (read bs .n) w l o,
+        ) in
+        rw (scanFrom-none base words i v (fall i v (running bs places t₀)) alone)
+        (left-same fallen-run (record { rack = g .0 .0 .written; queues = refl; draws = refl; falls = refl; holds = g .1 .1 .0 }))

@@ -10,14 +10,10 @@ use Rattle.model.specs.Moves.{due, promote}
 use Rattle.model.proofs.Tests.{and-intro, and-left, and-right}
 use Rattle.moves.specs.Proper.{Held}
 use Rattle.moves.proofs.Held.{held-rank, held-phi, held-small}
-use Rattle.settling.specs.Settling.{running, HoldsPending, Left, visited}
-use Rattle.settling.specs.declared.Tally.{Tally}
+use Rattle.settling.specs.Settling.{running, HoldsWaiting, Left, visited}
+use Rattle.settling.specs.declared.tally.Tally.{Tally}
+use Rattle.settling.proofs.Entries.{level-small}
 use Rattle.settling.proofs.News.{visited-yes, visited-no}
-
--- there are four levels from 0 on
-pub level-small : (i : ℕ) → i ≤ base .top → i < 4
-unfolding base
-level-small i k = omega arith
 
 -- the bytes hold a state, of which w is a vertex
 pub record Visiting (bs : List ℕ) (i w : ℕ) : Type 0 where
@@ -47,11 +43,12 @@ module _ {bs : List ℕ} {i w : ℕ} (a : Visiting bs i w) where
       (le→leb (read bs .rank w) i (omega (arith, turn-rank))) (le→leb (base .thr i) (phi (read bs) w i) (omega (arith, turn-phi)))
 
   -- a vertex that is not due is passed over
-  pub turn-passed : (words : List ℕ) {row : List ℕ} (t : Tally) → HoldsPending row (read bs) → (T (due base i w (read bs)) → ⊥)
-      → Left (visited base words i w (running bs t)) bs row t
-  turn-passed words t c n =
-      rw (visited-no base words i w (running bs t) n) (record { rack = a .held .written; draws = refl; falls = refl; pends = c })
+  pub turn-passed : (words : List ℕ) {places : List ℕ} (t : Tally) → HoldsWaiting places t (read bs) → (T (due base i w (read bs)) → ⊥)
+      → Left (visited base words i w (running bs places t)) bs places t
+  turn-passed words {places} t c n =
+      rw (visited-no base words i w (running bs places t) n)
+      (record { rack = a .held .written; queues = refl; draws = refl; falls = refl; holds = c })
 
-  pub turn-promoted : (words : List ℕ) {row d : List ℕ} (t : Tally) {r : Tally} → T (due base i w (read bs))
-      → Left (promote words i w (running bs t)) d row r → Left (visited base words i w (running bs t)) d row r
-  turn-promoted words t n c = rw (visited-yes base words i w (running bs t) n) c
+  pub turn-promoted : (words places : List ℕ) {places′ d : List ℕ} (t : Tally) {r : Tally} → T (due base i w (read bs))
+      → Left (promote words i w (running bs places t)) d places′ r → Left (visited base words i w (running bs places t)) d places′ r
+  turn-promoted words places t n c = rw (visited-yes base words i w (running bs places t) n) c

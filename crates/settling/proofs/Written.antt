@@ -1,22 +1,48 @@
 -- Moves on bytes, one after the other: what the next one asks, and that the last bytes are the writing of the last state. Assumes nothing.
 use mathlib.Core.Path.{_≡_, sym, ap, _∙_, subst}
 use mathlib.Core.Logic.{_≢_}
-use mathlib.Core.List.{List}
+use mathlib.Core.List.{List, []}
 use Prim.Native.Nat.{ℕ, suc, _≤_, _<_}
 use native.Mathlib.Omega.{arith}
 use lib.Dec.{T}
+use lib.ListN.{length, take}
 use Rattle.model.specs.State.{base, State, near, below}
-use Rattle.model.specs.Bytes.{read, write}
-use Rattle.model.specs.Moves.{at, part, rise, marry, chosen, drawn, draw, promote}
+use Rattle.model.specs.Bytes.{phiAt, read, write}
+use Rattle.model.specs.Moves.{Run, lifted, part, rise, marry, chosen, drawn, draw, promote}
+use Rattle.model.proofs.Limits.{phi-above}
+use Rattle.theory.specs.Waiting.{marks, queuesIn, partQueue}
+use Rattle.theory.proofs.Fits.{lift-is}
 use Rattle.layout.specs.Rows.{degreeAt}
 use Rattle.moves.specs.Proper.{Proper, Ordered, Held, RowBelow, tookOver}
 use Rattle.moves.proofs.Edges.{near-low}
 use Rattle.moves.proofs.Keeps.{part-proper, took-proper, took-row, ranked-row, rise-halves}
-use Rattle.moves.proofs.Held.{reads-as, held-of}
-use Rattle.settling.specs.Settling.{running, HoldsPendingBut, HoldsPending, noted, Left, drawLimit}
-use Rattle.settling.specs.declared.Tally.{Tally}
+use Rattle.moves.proofs.Held.{reads-as, held-of, held-small, held-phi}
+use Rattle.settling.specs.Settling.{queueIn, running, HoldsWaitingBut, HoldsWaiting, Requeued, Left, drawLimit}
+use Rattle.settling.specs.declared.tally.Tally.{Tally}
 use Rattle.settling.proofs.Steps.{SameEdges, lift-below, lift-kept, near-inside, near-other}
-use Rattle.settling.proofs.Pending.{pending-risen, pending-drawn}
+use Rattle.settling.proofs.News.{SameRun, draw-same}
+use Rattle.settling.proofs.Entries.{row-degree, level-small}
+use Rattle.settling.proofs.Holding.{holds-as, risen-holds, risen-levels, drawn-holds, drawn-levels}
+
+-- the queues that a queue makes of another state's ranks
+pub levels-as : (places : List ℕ) (t : Tally) {s s′ : State} → s ≡ s′ → queuesIn (s .rank) (queueIn places t) ≡ queuesIn (s′ .rank) (queueIn places t)
+levels-as places t e = ap (λ (s : State). queuesIn (s .rank) (queueIn places t)) e
+
+-- what is left of a run is left of one that differs in its new pairs alone
+pub left-same : {r q : Run} {bs places : List ℕ} {t : Tally} → SameRun r q → Left r bs places t → Left q bs places t
+left-same {r} {q} {bs} {places} {t} e a = record {
+  rack = a .rack ∙ ap write (e .state);
+  queues = levels-as places t (sym (e .state)) ∙ a .queues ∙ e .queues;
+  draws = a .draws ∙ e .draws;
+  falls = a .falls ∙ e .falls;
+  holds = subst (HoldsWaiting places t) (e .state) (a .holds);
+}
+
+-- where its state is proper, the bytes that a run leaves hold that state
+pub left-run : {r : Run} {bs places : List ℕ} {t : Tally} → Left r bs places t → Proper (r .state) → SameRun (running bs places t) r
+left-run {r} {bs} {places} {t} a p =
+    let e : read bs ≡ r .state = reads-as bs (r .state) (a .rack) p in
+    record { state = e; queues = levels-as places t e ∙ a .queues; draws = a .draws; falls = a .falls }
 
 -- the bytes hold an ordered state in which v stands below level i
 pub record Rising (bs : List ℕ) (i v : ℕ) : Type 0 where
@@ -30,13 +56,17 @@ pub record Rising (bs : List ℕ) (i v : ℕ) : Type 0 where
 abbrev pub Rises : ℕ → ℕ → State → Type 0
 Rises i v s = ((v < s .n) × (s .rank v ≤ i) × (i ≤ base .top)) × ((w : ℕ) → T (s .owns v w) → s .rank w ≤ i)
 
--- what a draw at u among k asks of the bytes, their state, the row and the number of draws
-abbrev pub Draws : List ℕ → ℕ → ℕ → ℕ → List ℕ → ℕ → State → Type 0
-Draws b i u k row d s =
-    (Held b × Ordered s) × (((u < s .n) × (i ≤ base .top)) × ((RowBelow i u s × (1 ≤ below s u i) × (k ≡ degreeAt b u)) × (HoldsPendingBut u row s × (d ≤ drawLimit))))
+-- what a draw at u among k asks of the bytes, their state, the queue and the tally
+abbrev pub Draws : List ℕ → ℕ → ℕ → ℕ → List ℕ → Tally → State → Type 0
+Draws b i u k places t s =
+    (Held b × Ordered s) × (
+    ((u < s .n) × (s .mate u ≡ u) × (s .rank u ≡ suc i) × (i ≤ base .top))
+    × ((RowBelow i u s × (1 ≤ below s u i) × (k ≡ degreeAt b u)) × (HoldsWaitingBut u places t s × (t .draws ≤ drawLimit)))
+    )
 
-pub draws-of : {b row : List ℕ} (s : State) → b ≡ write s → Proper s → (i u k d : ℕ) → Draws b i u k row d s → Draws b i u k row d (read b)
-draws-of {b} {row} s e p i u k d a = subst (Draws b i u k row d) (sym (reads-as b s e p)) a
+pub draws-of : {b places : List ℕ} (s : State) → b ≡ write s → Proper s → (i u k : ℕ) (t : Tally) → Draws b i u k places t s
+    → Draws b i u k places t (read b)
+draws-of {b} {places} s e p i u k t a = subst (Draws b i u k places t) (sym (reads-as b s e p)) a
 
 -- after its rise, a vertex's row holds exactly its neighbours below the level
 lift-row : (s : State) → Proper s → Ordered s → (i u : ℕ) → u < s .n → s .rank u ≤ i → RowBelow i u (rise i u (part u s))
@@ -77,64 +107,90 @@ module _ {bs : List ℕ} {i v : ℕ} (a : Rising bs i v) {b : List ℕ} where
   lifted-held e = held-of b (rise i v (part v (read bs))) e (lifted-kept a .proper)
 
   -- v draws next
-  pub lifted-draws : b ≡ write (rise i v (part v (read bs))) → {row pending : List ℕ} (k d : ℕ) → 1 ≤ below (read bs) v i → HoldsPending row (read bs)
-      → pending ≡ noted (read bs) row v → d ≤ drawLimit → k ≡ degreeAt b v → Draws b i v k pending d (read b)
-  lifted-draws e {row} k d n w f x g =
-      let s : State = rise i v (part v (read bs)) in
-      draws-of s e (lifted-kept a .proper) i v k d (
-        (lifted-held e, lifted-kept a .ordered),
-        (
-          (omega (arith, lifted-kept a .size, a .inside), a .level),
-          (
-            (
-              lift-row (read bs) (a .held .proper) (a .ordered) i v (a .inside) (a .low),
-              omega (arith, lift-below (read bs) (a .held .proper) (a .ordered) i v (a .inside)),
-              g,
-            ),
-            (subst (λ (y : List ℕ). HoldsPendingBut v y s) (sym f) (pending-risen (read bs) (a .held .proper) row i v (a .inside) w), x),
-          ),
-        ),
-      )
+  module _ (e : b ≡ write (rise i v (part v (read bs)))) {places places′ : List ℕ} {t t′ : Tally} (h : HoldsWaiting places t (read bs))
+      (q : Requeued (partQueue (marks (read bs)) v (queueIn places t)) t places′ t′) (long : length places′ ≡ length places) where
+    -- its count before the rise is the size of its row then
+    lifted-degree : phiAt bs v i ≡ degreeAt b v
+    lifted-degree =
+        let s : State = rise i v (part v (read bs)) in
+        let row : RowBelow i v s = lift-row (read bs) (a .held .proper) (a .ordered) i v (a .inside) (a .low) in
+        held-phi (a .held) v i (held-small (a .held) v (a .inside)) (level-small i (a .level))
+        ∙ phi-above (read bs) v i (a .low) ∙ sym (lift-below (read bs) (a .held .proper) (a .ordered) i v (a .inside))
+        ∙ ap (λ (z : State). below z v i) (sym (lifted-read e))
+        ∙ sym (row-degree b (lifted-held e) i v (omega (arith, ap (λ (z : State). z .n) (lifted-read e), lifted-kept a .size, a .inside))
+        (subst (RowBelow i v) (sym (lifted-read e)) row))
 
-  pub promoted-left : b ≡ write (rise i v (part v (read bs))) → (words : List ℕ) {pending d : List ℕ} (t : Tally) {r : Tally}
-      → Left (draw words i v (running b t)) d pending r → Left (promote words i v (running bs t)) d pending r
-  unfolding promote
-  promoted-left e words {pending} {d} t {r} c = subst (λ (s : State). Left (draw words i v (at (running bs t) s)) d pending r) (lifted-read e) c
+    pub lifted-draws : (k : ℕ) → 1 ≤ below (read bs) v i → t .draws ≤ drawLimit → k ≡ phiAt bs v i → Draws b i v k places′ t′ (read b)
+    lifted-draws k n x g =
+        let s : State = rise i v (part v (read bs)) in
+        draws-of s e (lifted-kept a .proper) i v k t′ (
+          (lifted-held e, lifted-kept a .ordered),
+          (
+            (omega (arith, lifted-kept a .size, a .inside), lift-is i v (read bs) .mate-w, lift-is i v (read bs) .rank-w, a .level),
+            (
+              (
+                lift-row (read bs) (a .held .proper) (a .ordered) i v (a .inside) (a .low),
+                omega (arith, lift-below (read bs) (a .held .proper) (a .ordered) i v (a .inside)),
+                g ∙ lifted-degree,
+              ),
+              (risen-holds long h q i (a .inside), omega (arith, q .draws)),
+            ),
+          ),
+        )
+
+    pub promoted-left : (words : List ℕ) {places″ d : List ℕ} {r : Tally} → Left (draw words i v (running b places′ t′)) d places″ r
+        → Left (promote words i v (running bs places t)) d places″ r
+    unfolding promote
+    promoted-left words c =
+        let same : SameRun (running b places′ t′) (lifted i v (running bs places t)) = record {
+          state = lifted-read e;
+          queues = levels-as places′ t′ (lifted-read e) ∙ risen-levels long h q i (a .inside);
+          draws = q .draws;
+          falls = q .falls;
+        } in
+        left-same (draw-same words i v same) c
 
 -- y is a neighbour of u below level i
 pub record Drawing (bs : List ℕ) (i u y : ℕ) : Type 0 where
   pub rising : Rising bs i y
   pub inside : u < read bs .n
+  pub free : read bs .mate u ≡ u
+  pub rank : read bs .rank u ≡ suc i
   pub near : T (near (read bs) u i y)
 
-pub drawing-of : {bs : List ℕ} {i u y : ℕ} → Held bs → Ordered (read bs) → u < read bs .n → i ≤ base .top → T (near (read bs) u i y) → Drawing bs i u y
-drawing-of {bs} {i} {u} {y} h o l k n = record {
-  rising = record { held = h; ordered = o; inside = near-inside (read bs) (h .proper) u i y n; low = near-low (read bs) u i y n; level = k };
-  inside = l;
+pub drawing-of : {bs : List ℕ} {i u y : ℕ} → Held bs → Ordered (read bs)
+    → (u < read bs .n) × (read bs .mate u ≡ u) × (read bs .rank u ≡ suc i) × (i ≤ base .top) → T (near (read bs) u i y) → Drawing bs i u y
+drawing-of {bs} {i} {u} {y} h o l n = record {
+  rising = record { held = h; ordered = o; inside = near-inside (read bs) (h .proper) u i y n; low = near-low (read bs) u i y n; level = l .3 };
+  inside = l .0;
+  free = l .1;
+  rank = l .2;
   near = n;
 }
 
+pub drawing-other : {bs : List ℕ} {i u y : ℕ} → Drawing bs i u y → u ≢ y
+drawing-other {bs} {i} {u} {y} a = near-other (read bs) (a .rising .held .proper) u i y (a .near)
+
 -- u has drawn y, which is parted and has risen
 module _ {bs : List ℕ} {i u y : ℕ} (a : Drawing bs i u y) {b : List ℕ} (e : b ≡ write (rise i y (part y (read bs)))) where
-  other : u ≢ y
-  other = near-other (read bs) (a .rising .held .proper) u i y (a .near)
-
   pub lifted-pairs : Held b × ((u < read b .n) × (y < read b .n) × (u ≢ y))
   unfolding rise part
   lifted-pairs = (
     lifted-held (a .rising) e,
-    subst (λ (s : State). (u < s .n) × (y < s .n) × (u ≢ y)) (sym (lifted-read (a .rising) e)) (a .inside, a .rising .inside, other),
+    subst (λ (s : State). (u < s .n) × (y < s .n) × (u ≢ y)) (sym (lifted-read (a .rising) e)) (a .inside, a .rising .inside, drawing-other a),
   )
 
-  pub drawn-left : (words : List ℕ) {row pending d : List ℕ} (t : Tally) {r : Tally} → HoldsPendingBut u row (read bs) → y ≡ chosen words i u (running bs t)
-      → pending ≡ noted (read bs) row y → d ≡ write (marry u y (read b)) → (r .draws ≡ suc (t .draws)) × (r .falls ≡ t .falls)
-      → Left (draw words i u (running bs t)) d pending r
-  unfolding draw drawn
-  drawn-left words {row} {pending} {d} t {r} w c n f g =
-      subst (λ (x : ℕ). Left (drawn i u x (running bs t)) d pending r) c (record {
-        rack = f ∙ ap (λ (s : State). write (marry u y s)) (lifted-read (a .rising) e);
-        draws = g .0;
-        falls = g .1;
-        pends = subst (λ (x : List ℕ). HoldsPending x (marry u y (rise i y (part y (read bs))))) (sym n)
-            (pending-drawn (read bs) (a .rising .held .proper) row i u y other (a .rising .inside) w);
-      })
+  module _ {places places′ : List ℕ} {t t′ : Tally} (h : HoldsWaitingBut u places t (read bs))
+      (q : Requeued (partQueue (marks (read bs)) y (queueIn places t)) t places′ t′) (long : length places′ ≡ length places) where
+    pub drawn-left : (words : List ℕ) {d : List ℕ} {r : Tally} → y ≡ chosen words i u (running bs [] t) → d ≡ write (marry u y (read b))
+        → (r .draws ≡ suc (t′ .draws)) × (r .falls ≡ t′ .falls) × (r .waiting ≡ t′ .waiting) → Left (draw words i u (running bs places t)) d places′ r
+    unfolding draw drawn chosen
+    drawn-left words {d} {r} c f g =
+        subst (λ (x : ℕ). Left (drawn i u x (running bs places t)) d places′ r) c (record {
+          rack = f ∙ ap (λ (s : State). write (marry u y s)) (lifted-read (a .rising) e);
+          queues = ap (λ (k : ℕ). queuesIn (marry u y (rise i y (part y (read bs))) .rank) (take k places′)) (g .2)
+              ∙ drawn-levels long h q i (drawing-other a) (a .free) (a .rank) (a .rising .inside);
+          draws = omega (arith, g .0, q .draws);
+          falls = omega (arith, g .1, q .falls);
+          holds = holds-as _ (g .2) (drawn-holds long h q i (drawing-other a) (a .free) (a .rank) (a .rising .inside));
+        })

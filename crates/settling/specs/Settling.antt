@@ -1,37 +1,74 @@
--- A run of moves, seen from the code: the rack's bytes, the tally, and a row of bits that holds every vertex that may be pending. The new
--- pairs are no part of them. Assumes nothing.
+-- A run of moves, seen from the code: the rack's bytes, the queue of the vertices that wait, and the tally. The new pairs are no part of
+-- them. Assumes nothing.
 use mathlib.Core.Path.{_≡_}
 use mathlib.Core.Logic.{_≢_}
 use mathlib.Core.Bool.{true, false}
 use mathlib.Core.List.{List, []}
-use Prim.Native.Nat.{ℕ, _≤_, _<_}
-use lib.Dec.{T, eqb}
-use lib.ListN.{length}
-use Rattle.model.specs.State.{Rules, State, pending}
+use Prim.Native.Nat.{ℕ, suc, _≤_, _<_}
+use lib.ListN.{length, take}
+use Rattle.model.specs.Lists.{Mem, Distinct, Lists}
+use Rattle.model.specs.State.{Rules, State, base}
 use Rattle.model.specs.Bytes.{read, write}
 use Rattle.model.specs.Moves.{Run, due, promote, Found, none, found}
-use Rattle.bitset.specs.Row.{member, inserted}
-use Rattle.settling.specs.declared.Tally.{Tally}
+use Rattle.theory.specs.Waiting.{marks, Waits, Paired, queuesIn}
+use Rattle.layout.specs.Rows.{degreeAt}
+use Rattle.moves.specs.Proper.{RowBelow}
+use Rattle.settling.specs.declared.tally.Tally.{Tally}
 use Rattle.settling.specs.declared.Choice.{Choice}
 use Rattle.settling.specs.declared.Choice.the-variants.{At, Nothing}
 
--- the run that goes on from the bytes and the tally
-abbrev pub running : List ℕ → Tally → Run
-running bs t = record { state = read bs; news = []; draws = t .draws; falls = t .falls }
+-- those in the queue: the first of the places lent, as many as the tally says
+abbrev pub queueIn : List ℕ → Tally → List ℕ
+queueIn places t = take (t .waiting) places
 
--- the row holds every pending vertex, but perhaps u
-pub record HoldsPendingBut (u : ℕ) (row : List ℕ) (s : State) : Type 0 where
-  pub wide : length row ≡ 32
-  pub holds : (v i : ℕ) → v < s .n → v ≢ u → T (pending s i v) → T (member row v)
+-- the run that goes on from the bytes, the queue and the tally
+abbrev pub running : List ℕ → List ℕ → Tally → Run
+running bs places t = record {
+  state = read bs;
+  queues = queuesIn (read bs .rank) (queueIn places t);
+  news = [];
+  draws = t .draws;
+  falls = t .falls;
+}
 
--- the row holds every pending vertex
-pub record HoldsPending (row : List ℕ) (s : State) : Type 0 where
-  pub wide : length row ≡ 32
-  pub holds : (v i : ℕ) → v < s .n → T (pending s i v) → T (member row v)
+-- the queue holds exactly the vertices of which W holds, and there are places for all
+pub record HoldsOnly (W : ℕ → Type 0) (places : List ℕ) (t : Tally) (s : State) : Type 0 where
+  pub room : s .n ≤ length places
+  pub within : t .waiting ≤ length places
+  pub lists : Lists W (queueIn places t)
+  pub paired : Paired (s .n) (marks s)
 
--- the row with v's mate put in, if v has one
-unfoldable pub noted : State → List ℕ → ℕ → List ℕ
-noted s row v = elim (eqb (s .mate v) v) [ true ↦ row | false ↦ inserted row (s .mate v) ]
+-- .. exactly the vertices that wait
+abbrev pub HoldsWaiting : List ℕ → Tally → State → Type 0
+HoldsWaiting places t s = HoldsOnly (Waits (s .n) (marks s)) places t s
+
+-- .. but for u, which is about to draw or to fall
+abbrev pub HoldsWaitingBut : ℕ → List ℕ → Tally → State → Type 0
+HoldsWaitingBut u places t s = HoldsOnly (λ v. Waits (s .n) (marks s) v × (v ≢ u)) places t s
+
+-- v can be parted: without a mate it stands in the queue exactly if it waits, and for a mate there is a place
+pub record CanPart (s : State) (v : ℕ) (places : List ℕ) (t : Tally) : Type 0 where
+  pub within : t .waiting ≤ length places
+  pub once : Distinct (queueIn places t)
+  pub stands : s .mate v ≡ v → 1 ≤ s .rank v → Mem v (queueIn places t)
+  pub absent : s .rank v ≡ 0 → Mem v (queueIn places t) → ⊥
+  pub room : s .mate v ≢ v → (1 ≤ s .rank (s .mate v)) × (t .waiting < length places)
+
+-- the queue is l then, and no figure changes
+pub record Requeued (l : List ℕ) (t : Tally) (places : List ℕ) (t′ : Tally) : Type 0 where
+  pub queue : queueIn places t′ ≡ l
+  pub within : t′ .waiting ≤ length places
+  pub draws : t′ .draws ≡ t .draws
+  pub falls : t′ .falls ≡ t .falls
+
+-- v, which is free, can fall from level i: it owns edges to vertices below i alone, k of them
+pub record Falling (bs : List ℕ) (i v k : ℕ) : Type 0 where
+  pub inside : v < read bs .n
+  pub free : read bs .mate v ≡ v
+  pub rank : read bs .rank v ≡ suc i
+  pub level : i ≤ base .top
+  pub row : RowBelow i v (read bs)
+  pub size : k ≡ degreeAt bs v
 
 -- how far a figure may have come for one more draw or fall to be counted, and for a whole taking, whose scan draws at most once for each vertex
 abbrev pub drawLimit : ℕ
@@ -45,12 +82,13 @@ pub record Room (d f : ℕ) (t : Tally) : Type 0 where
   pub draws : t .draws ≤ d
   pub falls : t .falls ≤ f
 
--- what a run leaves: the rack's bytes, the tally, and a row that holds every pending vertex
-pub record Left (r : Run) (bs row : List ℕ) (t : Tally) : Type 0 where
+-- what a run leaves: the rack's bytes, the queue that holds every vertex that waits, and the tally
+pub record Left (r : Run) (bs places : List ℕ) (t : Tally) : Type 0 where
   pub rack : bs ≡ write (r .state)
+  pub queues : queuesIn (r .state .rank) (queueIn places t) ≡ r .queues
   pub draws : t .draws ≡ r .draws
   pub falls : t .falls ≡ r .falls
-  pub pends : HoldsPending row (r .state)
+  pub holds : HoldsWaiting places t (r .state)
 
 -- a vertex's turn in the scan after a fall
 unfoldable pub visited : Rules → List ℕ → ℕ → ℕ → Run → Run

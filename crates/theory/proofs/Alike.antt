@@ -2,13 +2,13 @@
 -- marks, new pairs, draws and falls that they leave. Assumes nothing.
 use mathlib.Core.Path.{_≡_, refl, sym, ap, _∙_, subst, fun-ext}
 use mathlib.Core.Bool.{true, false, _&&_}
-use mathlib.Core.List.{List, [], _∷_}
+use mathlib.Core.List.{List, _∷_}
 use Prim.Native.Nat.{ℕ, zero, suc, _≤_}
-use lib.Dec.{T, eqb, leb}
+use lib.Dec.{T, leb}
 use lib.ListN.{length, getD}
 use Rattle.model.specs.Counting.{count, listed}
-use Rattle.model.specs.State.{edge, Rules, State, near, below, phi, free, pending}
-use Rattle.model.specs.Moves.{at, draw, drawn, fall, Run, none, found, part, rise, marry, place, chosen, promote, handOver, due, pick}
+use Rattle.model.specs.State.{edge, Rules, State, near, below, phi, free}
+use Rattle.model.specs.Moves.{at, lifted, handed, leave, join, parting, draw, drawn, fall, Run, none, found, part, rise, marry, place, chosen, promote, handOver, due}
 use Rattle.model.specs.Change.{reaches, riser}
 use Rattle.model.proofs.Tests.{bool-ext}
 use Rattle.theory.proofs.Marks.{Marks, marks, Setting, Simple, nearIn}
@@ -42,15 +42,6 @@ module _ {s s′ : State} (A : Alike s s′) where
   unfolding phi
   phi-alike v j = λ k. elim (leb (A .rank k v) j) [ true ↦ below-alike v j k | false ↦ 0 ]
 
-  pub pending-alike : (i : ℕ) → pending s i ≡ pending s′ i
-  unfolding pending free
-  pending-alike i = λ k v. eqb (A .mate k v) v && eqb (A .rank k v) (suc i)
-
-  pub pick-alike : (m : ℕ) → pick m s ≡ pick m s′
-  unfolding pick
-  pick-alike zero = refl
-  pick-alike (suc i) = λ k. elim (listed (pending-alike i k) (A .size k)) [ [] ↦ pick-alike i k | v ∷ l ↦ found i v ]
-
   pub due-alike : (R : Rules) (i w : ℕ) → due R i w s ≡ due R i w s′
   unfolding due
   due-alike R i w = λ k. leb (A .rank k w) i && leb (R .thr i) (phi-alike w i k)
@@ -70,9 +61,10 @@ module _ {s s′ : State} (A : Alike s s′) where
     ]
   ]
 
--- the same marks, new pairs, draws and falls
+-- the same marks, queues, new pairs, draws and falls
 pub record Same (r r′ : Run) : Type 0 where
   pub marked : marks (r .state) ≡ marks (r′ .state)
+  pub queues : r .queues ≡ r′ .queues
   pub news : r .news ≡ r′ .news
   pub draws : r .draws ≡ r′ .draws
   pub falls : r .falls ≡ r′ .falls
@@ -81,28 +73,31 @@ pub record Same (r r′ : Run) : Type 0 where
 dress : State → Marks → State
 dress s x = record { n = s .n; rank = x .rank; mate = x .mate; owns = s .owns }
 
-pub lift-same : {r r′ : Run} (i u : ℕ) → Same r r′ → Same (at r (rise i u (part u (r .state)))) (at r′ (rise i u (part u (r′ .state))))
-unfolding rise part dress
+pub lift-same : {r r′ : Run} (i u : ℕ) → Same r r′ → Same (lifted i u r) (lifted i u r′)
+unfolding rise part parting free dress
 lift-same {r} i u S = record {
   marked = ap (λ (x : Marks). marks (rise i u (part u (dress (r .state) x)))) (S .marked);
+  queues = λ k. parting (dress (r .state) (S .marked k)) u (S .queues k);
   news = S .news;
   draws = S .draws;
   falls = S .falls;
 }
 
 pub drawn-same : {r r′ : Run} (i u : ℕ) {y y′ : ℕ} → Same r r′ → y ≡ y′ → Same (drawn i u y r) (drawn i u y′ r′)
-unfolding drawn marry rise part dress
+unfolding drawn marry rise part parting free dress
 drawn-same {r} i u S e = record {
   marked = λ k. marks (marry u (e k) (rise i (e k) (part (e k) (dress (r .state) (S .marked k)))));
+  queues = λ k. parting (dress (r .state) (S .marked k)) (e k) (S .queues k);
   news = λ k. record { a = u; b = e k } ∷ S .news k;
   draws = ap suc (S .draws);
   falls = S .falls;
 }
 
-pub fall-same : {r r′ : Run} (i v : ℕ) → Same r r′ → Same (fall i v (at r (handOver i v (r .state)))) (fall i v (at r′ (handOver i v (r′ .state))))
+pub fall-same : {r r′ : Run} (i v : ℕ) → Same r r′ → Same (fall i v (handed i v r)) (fall i v (handed i v r′))
 unfolding fall handOver dress
 fall-same {r} i v S = record {
-  marked = ap (λ (x : Marks). marks (fall i v (at r (dress (r .state) x)) .state)) (S .marked);
+  marked = ap (λ (x : Marks). marks (fall i v (at r (dress (r .state) x) (r .queues)) .state)) (S .marked);
+  queues = ap (λ (x : ℕ → List ℕ). join v i (leave v x)) (S .queues);
   news = S .news;
   draws = S .draws;
   falls = ap suc (S .falls);

@@ -11,11 +11,7 @@ use Rattle.model.specs.Lists.{Mem}
 use Rattle.model.specs.Counting.{count}
 use Rattle.model.specs.State.{Rules, State, edge as edges-of}
 use Rattle.model.proofs.Tests.{and-intro, and-left, and-right}
-
--- the rank (level plus 1) and the mate of each vertex; a free vertex is its own mate, so that to part it changes nothing
-pub record Marks : Type 0 where
-  pub rank : ℕ → ℕ
-  pub mate : ℕ → ℕ
+pub use Rattle.theory.specs.Waiting.{Marks, marks}
 
 -- what does not change while a state settles: the number of vertices, the top level, the thresholds and the edges
 pub record Setting : Type 0 where
@@ -24,10 +20,7 @@ pub record Setting : Type 0 where
   pub thr : ℕ → ℕ
   pub edge : ℕ → ℕ → Bool
 
--- the marks of a state, its setting under the rules, and the rules of a setting
-abbrev pub marks : State → Marks
-marks s = record { rank = s .rank; mate = s .mate }
-
+-- the setting of a state under the rules, and the rules of a setting
 abbrev pub setting : Rules → State → Setting
 setting R s = record { n = s .n; top = R .top; thr = R .thr; edge = edges-of s }
 

@@ -39,7 +39,7 @@ struct Start {
     first_seed: u64,
 }
 
-const STARTS: [Start; 5] = [
+const STARTS: [Start; 6] = [
     Start {
         name: "random racks",
         kind: Kind::Random,
@@ -55,6 +55,14 @@ const STARTS: [Start; 5] = [
         changes: 4,
         sizes: None,
         first_seed: 0x1200_0000,
+    },
+    Start {
+        name: "dense racks of 5 to 12 boards",
+        kind: Kind::Dense,
+        racks: 1_000,
+        changes: 40,
+        sizes: Some((5, 12)),
+        first_seed: 0x1900_0000,
     },
     Start {
         name: "random racks of 17 to 64 boards",
@@ -94,6 +102,7 @@ pub fn all() -> Verdict {
         let part = from_racks(start)?;
         let told = |why| format!("{}: {why}", start.name);
         part.numbers.came(&[0]).map_err(told)?;
+        part.decided.came(&[true]).map_err(told)?;
         whole.add(&format!("from {}", start.name), &part);
     }
     whole.add("from fans", &from_fans()?);
@@ -111,14 +120,15 @@ pub fn all() -> Verdict {
 
 /// One change of a rack.
 fn step(twin: &mut Twin, asked: &Asked, tally: &mut Tally) -> Result<Answer, String> {
-    let fit = fitting(&twin.rack, asked);
+    let before = twin.rack.clone();
+    let fit = fitting(&before, asked);
     let answer = twin.change(asked)?;
     same(
         "the first number that fits",
         answer.number,
         fit.first().copied().unwrap_or(0),
     )?;
-    tally.note_on(&twin.rack, asked, &fit, &answer);
+    tally.note_on(&before, asked, &fit, &answer, &twin.rack);
     Ok(answer)
 }
 

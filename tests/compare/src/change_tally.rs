@@ -1,9 +1,10 @@
-//! What the changes came to: the numbers, those met at once, and the levels
-//! reached.
+//! What the changes came to: the numbers, those met at once, the levels reached,
+//! and how many of them the order decides.
 
 use crate::asked::Asked;
 use crate::tally::Seen;
 use crate::Verdict;
+use reference::checks::rival::order_decides;
 use reference::{Answer, Rack};
 
 /// What was tried.
@@ -16,6 +17,9 @@ pub struct Tally {
     /// The accepted changes: their codes, and the highest level then reached.
     codes: Seen<u32>,
     tops: Seen<i32>,
+    /// Whether those of sound racks come out otherwise with the lowest number
+    /// first, so that it shows if the core takes waiting boards in that order.
+    pub decided: Seen<bool>,
     draws: u64,
     pub most_draws: u32,
     pub most_falls: u32,
@@ -32,6 +36,7 @@ impl Tally {
             at_once: Seen::of("at once", at_once),
             codes: Seen::of("code", [1, 2]),
             tops: Seen::of("highest level", -1..=3),
+            decided: Seen::of("decided by the order", [true, false]),
             draws: 0,
             most_draws: 0,
             most_falls: 0,
@@ -45,8 +50,16 @@ impl Tally {
         self.most_falls = self.most_falls.max(answer.falls);
     }
 
-    /// A change of a sound rack, before which these numbers fit it.
-    pub fn note_on(&mut self, rack: &Rack, asked: &Asked, fit: &[u32], answer: &Answer) {
+    /// A change of a sound rack, with the numbers that fit it and the rack after
+    /// it.
+    pub fn note_on(
+        &mut self,
+        before: &Rack,
+        asked: &Asked,
+        fit: &[u32],
+        answer: &Answer,
+        after: &Rack,
+    ) {
         self.note(answer);
         for (place, &lower) in fit.iter().enumerate() {
             for &higher in &fit[place + 1..] {
@@ -54,9 +67,12 @@ impl Tally {
             }
         }
         if answer.number == 0 {
-            self.codes.note(asked.code);
+            let Asked { code, a, b, words } = asked;
+            self.codes.note(*code);
             self.tops
-                .note(rack.level.iter().copied().max().unwrap_or(-1));
+                .note(after.level.iter().copied().max().unwrap_or(-1));
+            let decided = order_decides(before, (*code, *a, *b), words, answer, after);
+            self.decided.note(decided);
         }
     }
 
@@ -67,6 +83,7 @@ impl Tally {
         self.at_once.add(&part.at_once);
         self.codes.add(&part.codes);
         self.tops.add(&part.tops);
+        self.decided.add(&part.decided);
         self.draws += part.draws;
         self.most_draws = self.most_draws.max(part.most_draws);
         self.most_falls = self.most_falls.max(part.most_falls);
@@ -74,13 +91,25 @@ impl Tally {
 
     fn print(&self, what: &str) {
         println!(
-            "{} changes {what}, by {}; {} draws, most draws {} and falls {}: equal",
+            "{} changes {what}, by {}; {} draws, most draws {} and falls {}{}: equal",
             self.numbers.sum(),
             self.numbers,
             self.draws,
             self.most_draws,
-            self.most_falls
+            self.most_falls,
+            self.by_order()
         );
+    }
+
+    /// How many changes the order decides, where that was looked at.
+    fn by_order(&self) -> String {
+        match self.decided.sum() {
+            0 => String::new(),
+            all => format!(
+                "; {} of {all} decided by the order",
+                self.decided.times(true)
+            ),
+        }
     }
 
     /// Prints the whole; an error if something that can come never did.
@@ -88,9 +117,15 @@ impl Tally {
         self.print("in all");
         println!("two numbers {}", self.at_once);
         println!("accepted by {}; {}", self.codes, self.tops);
+        println!(
+            "{} of {} accepted changes come out otherwise with the lowest number first",
+            self.decided.times(true),
+            self.decided.sum()
+        );
         self.numbers.all_came()?;
         self.at_once.all_came()?;
         self.codes.all_came()?;
+        self.decided.all_came()?;
         self.tops.all_came()
     }
 }

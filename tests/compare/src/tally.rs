@@ -41,10 +41,14 @@ impl<K: Copy + Ord + Debug> Seen<K> {
         self.times.values().sum()
     }
 
+    /// How often one of them came.
+    pub fn times(&self, one: K) -> u64 {
+        self.times.get(&one).copied().unwrap_or(0)
+    }
+
     /// An error unless each of these came.
     pub fn came(&self, these: &[K]) -> Verdict {
-        let times = |one: &K| self.times.get(one).copied().unwrap_or(0);
-        match these.iter().find(|one| times(one) == 0) {
+        match these.iter().find(|&&one| self.times(one) == 0) {
             Some(one) => Err(format!("never met: {} {one:?}", self.what)),
             None => Ok(()),
         }

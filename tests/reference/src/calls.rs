@@ -3,6 +3,7 @@
 
 use crate::image::{IDLE, PLACES, RACK_BYTES};
 use crate::moves::{self, Done};
+use crate::queues::Order;
 use crate::rack::Rack;
 use crate::sound::sound;
 
@@ -149,14 +150,28 @@ pub fn change_rack(
     b: u32,
     words: &[u32],
 ) -> (Answer, Vec<(u32, u32)>) {
+    change_in_order(Order::FirstCome, rack, code, a, b, words)
+}
+
+/// The same with the waiting boards taken in either order. For tests alone: they
+/// make a change in both orders, to show that among the changes they reach are
+/// some that the order decides.
+pub fn change_in_order(
+    order: Order,
+    rack: &mut Rack,
+    code: u32,
+    a: u32,
+    b: u32,
+    words: &[u32],
+) -> (Answer, Vec<(u32, u32)>) {
     let (a, b) = match allowed(rack, code, a, b, words.len()) {
         Ok(both) => both,
         Err(number) => return (Answer::refused(number), Vec::new()),
     };
     let done = if code == ADD {
-        moves::add(rack, a, b, words)
+        moves::add(rack, a, b, words, order)
     } else {
-        moves::drop(rack, a, b, words)
+        moves::drop(rack, a, b, words, order)
     };
     told(rack, &done)
 }

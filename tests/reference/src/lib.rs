@@ -11,6 +11,7 @@ pub mod checks;
 pub mod grammar;
 pub mod image;
 pub mod moves;
+pub mod queues;
 pub mod rack;
 pub mod sound;
 pub mod trace;

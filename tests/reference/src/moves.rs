@@ -1,11 +1,14 @@
 //! The elementary moves, the settling, and what an add and a drop do.
 
+use crate::queues::{Order, Queues};
 use crate::rack::{threshold, Rack, HIGHEST};
 
-/// One change in play: the rack, the words lent, and what happened so far.
+/// One change in play: the rack, the words lent, the boards that wait, and what
+/// happened so far.
 pub struct Play<'a> {
     rack: &'a mut Rack,
     words: &'a [u32],
+    queues: Queues,
     used: usize,
     falls: usize,
     new_pairs: Vec<(usize, usize)>,
@@ -20,12 +23,13 @@ pub struct Done {
     pub new_pairs: Vec<(usize, usize)>,
 }
 
-/// Adds the link a-b, which isn't there, to a sound rack.
-pub fn add(rack: &mut Rack, a: usize, b: usize, words: &[u32]) -> Done {
-    let mut play = Play::start(rack, words);
+/// Adds the link a-b, which isn't there, to a sound rack. "The riser's pair, if
+/// any, is parted; it rises, it draws, the settling follows."
+pub fn add(rack: &mut Rack, a: usize, b: usize, words: &[u32], order: Order) -> Done {
+    let mut play = Play::start(rack, words, order);
     play.put_link(a, b);
     if let Some((u, i)) = play.search_for_a_rise(a, b) {
-        play.part(u);
+        play.lose_mate(u);
         play.rise(u, i);
         play.draw(u, i);
         play.settle();
@@ -34,23 +38,27 @@ pub fn add(rack: &mut Rack, a: usize, b: usize, words: &[u32]) -> Done {
 }
 
 /// Drops the link a-b, which is there, from a sound rack. "If its ends were
-/// mates, part them and settle. Otherwise no level changes."
-pub fn drop(rack: &mut Rack, a: usize, b: usize, words: &[u32]) -> Done {
-    let mut play = Play::start(rack, words);
+/// mates, part them and settle. Otherwise no level changes." And: "Parting by a
+/// drop puts the lower number first." (document 02, W-203)
+pub fn drop(rack: &mut Rack, a: usize, b: usize, words: &[u32], order: Order) -> Done {
+    let mut play = Play::start(rack, words, order);
     play.rack.owner[a][b] = false;
     play.rack.owner[b][a] = false;
     if play.rack.mate[a] == Some(b) {
-        play.part(a);
+        play.part(a, b);
+        play.wait(a.min(b));
+        play.wait(a.max(b));
         play.settle();
     }
     play.finish()
 }
 
 impl Play<'_> {
-    fn start<'a>(rack: &'a mut Rack, words: &'a [u32]) -> Play<'a> {
+    fn start<'a>(rack: &'a mut Rack, words: &'a [u32], order: Order) -> Play<'a> {
         Play {
             rack,
             words,
+            queues: Queues::empty(order),
             used: 0,
             falls: 0,
             new_pairs: Vec::new(),
@@ -58,6 +66,10 @@ impl Play<'_> {
     }
 
     fn finish(self) -> Done {
+        debug_assert!(
+            self.queues.are_empty() && self.queues.list_the_waiting(self.rack),
+            "a board waits after a change"
+        );
         Done {
             draws: self.used,
             falls: self.falls,
@@ -93,12 +105,24 @@ impl Play<'_> {
         None
     }
 
-    /// Parts the pair of v, if it has a mate. Both are idle then, and wait if
-    /// their level is 0 or more.
-    fn part(&mut self, v: usize) {
+    /// Parts the pair v-w.
+    fn part(&mut self, v: usize, w: usize) {
+        self.rack.mate[v] = None;
+        self.rack.mate[w] = None;
+    }
+
+    /// From now on v waits at its level, behind those that wait there already.
+    fn wait(&mut self, v: usize) {
+        self.queues.join(v, self.rack.level[v]);
+    }
+
+    /// v, which is to rise, "loses its mate if it has one". Its former mate then
+    /// waits; v itself doesn't, and if it did, it waits no more.
+    fn lose_mate(&mut self, v: usize) {
+        self.queues.leave(v);
         if let Some(w) = self.rack.mate[v] {
-            self.rack.mate[v] = None;
-            self.rack.mate[w] = None;
+            self.part(v, w);
+            self.wait(w);
         }
     }
 
@@ -122,12 +146,13 @@ impl Play<'_> {
     /// "Draw at u, level i: list u's neighbours below i by rising number, k of
     /// them; the chosen one stands at place (word mod k), places from 0. [...]
     /// If the chosen y has a mate, that pair is parted. Then y rises to i, and
-    /// u and y are mates."
+    /// u and y are mates." The mate of a riser u is lost before: "A riser's former
+    /// mate comes before the chosen board's former mate." (document 02, W-203)
     fn draw(&mut self, u: usize, i: i32) {
         let below = self.rack.neighbours_below(u, i);
         let k = below.len();
         let y = below[self.next_word() as usize % k];
-        self.part(y);
+        self.lose_mate(y);
         self.rise(y, i);
         self.rack.mate[u] = Some(y);
         self.rack.mate[y] = Some(u);
@@ -160,10 +185,13 @@ impl Play<'_> {
 
     /// "v falls to i-1. Then the boards to which v owned links just after the
     /// fall are gone through by rising number". The list is made once; each
-    /// board is looked at when its turn comes.
+    /// board is looked at when its turn comes. "A board that falls joins the end
+    /// of its new level before any rise that follows the fall." (document 02,
+    /// W-203)
     fn fall(&mut self, v: usize, i: i32) {
         self.rack.level[v] = i - 1;
         self.falls += 1;
+        self.wait(v);
         let owned: Vec<usize> = (0..self.rack.n)
             .filter(|&w| self.rack.owner[v][w])
             .collect();
@@ -176,28 +204,27 @@ impl Play<'_> {
     /// mate if it has one, rises to i and draws."
     fn look_at(&mut self, w: usize, i: i32) {
         if self.rack.level[w] < i && self.rack.reaches(w, i) {
-            self.part(w);
+            self.lose_mate(w);
             self.rise(w, i);
             self.draw(w, i);
         }
     }
 
-    /// "The settling: while any board waits, take one of the highest level,
-    /// lowest number first."
+    /// "The settling: while any board waits, take one of the highest level", and
+    /// "the one that has waited at that level longest" (document 02, W-203).
     fn settle(&mut self) {
         while let Some(v) = self.next_waiting() {
             self.take(v);
         }
     }
 
-    fn next_waiting(&self) -> Option<usize> {
-        for i in (0..=HIGHEST).rev() {
-            for v in 0..self.rack.n {
-                if self.rack.waiting(v) && self.rack.level[v] == i {
-                    return Some(v);
-                }
-            }
-        }
-        None
+    /// The first of the queues. The assertions here and at the end of a change
+    /// are for the self-check, which is built with them.
+    fn next_waiting(&mut self) -> Option<usize> {
+        debug_assert!(
+            self.queues.list_the_waiting(self.rack),
+            "the queues are not the waiting boards"
+        );
+        self.queues.take()
     }
 }

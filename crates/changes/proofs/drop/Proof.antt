@@ -33,7 +33,7 @@ part-and-settle-requires c κs =
     let m = c .before .before in
     let x = dropped (edged m) in
     let l = dropped-inside x in
-    (dropped-begun x, (l .0, l .1, dropped-mates x (m .mate .ensures) (omega (arith, c .before .if1 .taken))))
+    (dropped-begun x, (l .0, l .1, x .ends .2, dropped-mates x (m .mate .ensures) (omega (arith, c .before .if1 .taken))))
 
 same-length : tie.Need-same-length
 same-length c = search needs

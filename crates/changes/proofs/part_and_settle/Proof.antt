@@ -1,87 +1,100 @@
 -- `changes::part_and_settle` meets its contract. Assumes nothing.
-use Rattle.model.specs.Bytes.{read}
-use Rattle.model.specs.Moves.{part}
-use Rattle.model.specs.Change.{start}
-use Rattle.changes.proofs.Chains.{Onward, settled-on}
-use Rattle.changes.proofs.Wholes.{parted-next}
+use mathlib.Core.Path.{_∙_}
+use native.Mathlib.Omega.{arith}
 use borrow.Author.Needs.{needs}
+use Rattle.model.specs.Bytes.{read}
+use Rattle.model.specs.Change.{startParted}
+use Rattle.changes.proofs.Chains.{Onward, parted-next, one-waits, settled-on}
 use Rattle.changes.proofs.part_and_settle.Statement.{statement}
 use Rattle.changes.proofs.part_and_settle.Tie as tie
 
-empty-row-requires : tie.Need-empty-row-requires
-empty-row-requires c κs = search needs
+places-requires : tie.Need-places-requires
+places-requires c κs = search needs
 
-slice-aggregate-insert : tie.Need-slice-aggregate-insert
-slice-aggregate-insert c = search needs
-
-insert-requires : tie.Need-insert-requires
-insert-requires c κs = search needs
-
-slice-aggregate-insert-2 : tie.Need-slice-aggregate-insert-2
-slice-aggregate-insert-2 c = search needs
-
-insert-requires-2 : tie.Need-insert-requires-2
-insert-requires-2 c κs = search needs
-
-part-requires : tie.Need-part-requires
-part-requires c κs = search needs
-
-slice-aggregate-settle : tie.Need-slice-aggregate-settle
-slice-aggregate-settle c = search needs
+slice-aggregate-join : tie.Need-slice-aggregate-join
+slice-aggregate-join c = search needs
 
 new-requires : tie.Need-new-requires
 new-requires c κs = search needs
 
 -- the places, each from a later one
-abbrev begin : tie.After-empty-row → tie.Start
+abbrev begin : tie.After-places → tie.Start
 begin c = c .before .before .before
 
-abbrev named : tie.After-insert2 → tie.After-insert
-named c = c .before .before .before
+abbrev lent : tie.After-new → tie.After-places
+lent c = c .before .before
 
-abbrev rowed : tie.After-insert → tie.After-empty-row
-rowed c = c .before .before
+abbrev joined : tie.After-join2 → tie.After-join
+joined c = c .before .before .before
 
-abbrev noted : tie.After-part → tie.After-insert2
-noted c = c .before .before .before
+abbrev parted : tie.After-part → tie.After-join2
+parted c = c .before .before .before
 
-abbrev parted : tie.After-new → tie.After-part
-parted c = c .before .before .before .before .before
+join-requires : tie.Need-join-requires
+join-requires c κs =
+    let s = begin (lent c) in
+    let h = s .pre .0 .held in
+    (omega (arith, c .new .ensures .2, lent c .places .ensures), omega (arith, s .pre .1 .0, h .proper .few))
+
+slice-aggregate-join-2 : tie.Need-slice-aggregate-join-2
+slice-aggregate-join-2 c = search needs
+
+join-requires-2 : tie.Need-join-requires-2
+join-requires-2 c κs =
+    let j = c .before .before in
+    let l = lent (j .before) in
+    let h = begin l .pre .0 .held in (
+      omega (
+        arith,
+        one-waits (l .places .result) (j .join .last .0) (begin l .args .a) (j .before .new .result) (j .join .result) (j .before .new .ensures) (j .join .ensures),
+        j .join .kept .0,
+        l .places .ensures,
+      ),
+      omega (arith, begin l .pre .1 .1, h .proper .few),
+    )
+
+part-requires : tie.Need-part-requires
+part-requires c κs = let s = begin (lent (joined (c .before .before) .before)) in (s .pre .0 .held, s .pre .1 .0)
+
+slice-aggregate-settle : tie.Need-slice-aggregate-settle
+slice-aggregate-settle c = search needs
 
 -- where the parting leaves the run
-next : (c : tie.After-new) →
-    let p = parted c in
-    let w = noted p in
-    let a = begin (rowed (named w)) .args in
-    Onward (start (part (a .a) (read (a .rack .now)))) (p .part .last .0) (w .insert2 .last .0) (c .new .result)
+next : (c : tie.After-part) →
+    let w = parted c in
+    let a = begin (lent (joined w .before)) .args in
+    Onward (startParted (a .a) (a .b) (read (a .rack .now))) (c .part .last .0) (w .join2 .last .0) (w .join2 .result)
 next c =
-    let p = parted c in
-    let w = noted p in
-    let r = rowed (named w) in
-    parted-next (begin r .pre .0) (begin r .pre .1) (r .empty-row .ensures) (named w .insert .ensures) (w .insert2 .ensures)
-    (p .part .ensures) (c .new .ensures)
+    let w = parted c in
+    let j = joined w in
+    let l = lent (j .before) in
+    let s = begin l in
+    parted-next (s .pre .0) (s .pre .1) (l .places .result) (j .join .last .0) (j .before .new .result) (j .join .result) (j .before .new .ensures)
+    (w .join2 .kept .0 ∙ j .join .kept .0 ∙ l .places .ensures) (j .join .ensures) (w .join2 .ensures) (c .part .ensures)
 
 settle-requires : tie.Need-settle-requires
-settle-requires c κs = let n = next c in ((n .held, n .ordered), (n .pends, n .room))
+settle-requires c κs = let n = next (c .before .before .before .before) in ((n .held, n .ordered), (n .holds, n .room))
 
 same-length : tie.Need-same-length
 same-length c = search needs
 
 returns : tie.Need-returns
-returns c = settled-on _ (next (c .before .before .before .before)) (c .before .before .before .settle .ensures)
+returns c =
+    let x = c .before .before .before in
+    settled-on _ (next (x .before .before .before .before .before)) (x .settle .ensures)
 
 pub part-and-settle-spec : {M : Type 1} → statement M
 part-and-settle-spec =
     tie.close
     (tie.spec
-    empty-row-requires
-    slice-aggregate-insert
-    insert-requires
-    slice-aggregate-insert-2
-    insert-requires-2
+    places-requires
+    slice-aggregate-join
+    new-requires
+    join-requires
+    slice-aggregate-join-2
+    join-requires-2
     part-requires
     slice-aggregate-settle
-    new-requires
     settle-requires
     same-length
     returns)

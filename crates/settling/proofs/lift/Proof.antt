@@ -5,10 +5,10 @@ use Rattle.settling.proofs.lift.Statement.{statement}
 use Rattle.settling.proofs.lift.Tie as tie
 
 rising : (c : tie.Start) → Rising (c .args .rack .now) (c .args .i) (c .args .v)
-rising c = record { held = c .pre .0 .0; ordered = c .pre .0 .1; inside = c .pre .1 .0; low = c .pre .1 .1; level = c .pre .1 .2 }
+rising c = record { held = c .pre .0 .0; ordered = c .pre .0 .1; inside = c .pre .1 .0 .0; low = c .pre .1 .0 .1; level = c .pre .1 .0 .2 }
 
-note-mate-requires : tie.Need-note-mate-requires
-note-mate-requires c κs = search needs
+requeue-requires : tie.Need-requeue-requires
+requeue-requires c κs = search needs
 
 part-requires : tie.Need-part-requires
 part-requires c κs = search needs
@@ -27,9 +27,9 @@ returns : tie.Need-returns
 returns c =
     let p = c .before .before .before .before .before .before in
     let n = p .before .before .before .before in
-    (parted-lifts (rising (n .before .before .before .before .before)) (p .part .ensures) (c .before .before .rise .ensures), n .note-mate .ensures)
+    (parted-lifts (rising (n .before .before .before .before .before)) (p .part .ensures) (c .before .before .rise .ensures), n .requeue .ensures)
 
 pub lift-spec : {M : Type 1} → statement M
 lift-spec =
     tie.close
-    (tie.spec note-mate-requires part-requires rise-requires same-length same-length-2 returns)
+    (tie.spec requeue-requires part-requires rise-requires same-length same-length-2 returns)

@@ -1,98 +1,127 @@
--- `settling::pick` meets its contract. The loop's invariant is `Best`: before v no free vertex has a rank above `best`, and `at` is the
--- first that has it, if it is not 0. Assumes nothing.
-use mathlib.Core.Path.{sym, _∙_}
+-- `settling::pick` meets its contract. The loop's invariant is `Best`: before place j no vertex of the queue has a rank above `best`, and `at` is
+-- the first that has it, if it is not 0. Assumes nothing.
+use mathlib.Core.Path.{_≡_, sym, ap, _∙_, subst}
 use mathlib.Core.Logic.{⊎-elim}
-use Prim.Native.Nat.{_-_, _≤_, _<_}
+use Prim.Native.Nat.{ℕ, suc, _-_, _≤_, _<_}
 use native.Mathlib.Omega.{arith}
+use lib.ListN.{length, getD, take}
+use borrow.Author.Needs.{needs}
+use Rattle.model.specs.State.{base}
 use Rattle.model.specs.Bytes.{read}
-use Rattle.moves.specs.Proper.{Held}
-use Rattle.moves.proofs.Held.{held-sized, held-size, held-small}
-use Rattle.settling.proofs.Picking.{Best, best-none, best-nothing, best-found, best-small, Turn, turn-same, turn-more}
+use Rattle.model.proofs.Lists.{All-at, getD-mem}
+use Rattle.queue.proofs.Places.{length-first, first-at}
+use Rattle.moves.proofs.Held.{held-sized, held-small, held-rank}
+use Rattle.settling.proofs.Picking.{Best, best-none, best-same, best-more, best-nothing, best-found}
 use Rattle.settling.proofs.pick.Statement.{statement}
 use Rattle.settling.proofs.pick.Tie as tie
 
 abbrev Inv-loop : tie.InvT-loop
-Inv-loop rack pending n best₀ at₀ v₀ best at v = Best (read rack) best at v
+Inv-loop rack queue k best₀ at₀ j₀ best at j = Best (read rack .rank) (take k queue) best at j × (j ≤ k)
 
 abbrev μ-loop : tie.MeasureT-loop
-μ-loop rack pending n best₀ at₀ v₀ best at v = n - v
-
-size-requires : tie.Need-size-requires Inv-loop μ-loop
-size-requires c κs = held-sized (c .before .before .pre .0)
-
-next-requires : tie.Need-next-requires Inv-loop μ-loop
-next-requires c κs = omega (arith, c .before .before .before .pre .1 .wide)
+μ-loop rack queue k best₀ at₀ j₀ best at j = k - j
 
 loop-holds : tie.Need-loop-holds Inv-loop μ-loop
-loop-holds c = best-none _ _ (c .before .before .before .before .pre .1) _ (c .next .ensures)
+loop-holds c = let a = c .before .before .args in (best-none (read (a .rack .now) .rank) (take (a .k) (a .queue .now)), omega arith)
 
--- in a turn: the rack is held, and v is one of its vertices
-held : (c : tie.In-loop Inv-loop μ-loop) → Held (c .before .before .before .before .before .before .args .rack .now)
-held c = c .before .before .before .before .before .before .pre .0
+-- where the function and where a turn begins
+abbrev start : tie.At-loop Inv-loop μ-loop → tie.Start Inv-loop μ-loop
+start c = c .before .before .before
 
-below : (c : tie.In-loop Inv-loop μ-loop) → c .before .loop .v < read (c .before .before .before .before .before .before .args .rack .now) .n
-below c = omega (arith, c .loop-test .taken, c .before .before .before .size .ensures, held-size (held c))
+-- the vertex at place j: one of the queue's, and of the rack's
+entry : (c : tie.In-loop Inv-loop μ-loop) →
+    let a = start (c .before) .args in
+    getD (take (a .k) (a .queue .now)) (c .before .loop .j) 0 ≡ getD (a .queue .now) (c .before .loop .j) 0
+entry c =
+    let s = start (c .before) in
+    first-at (s .args .k) (s .args .queue .now) (c .before .loop .j)
+    (omega (arith, length-first (s .args .k) (s .args .queue .now) (s .pre .1 .0), c .loop-test .taken))
+
+inside : (c : tie.In-loop Inv-loop μ-loop) →
+    let a = start (c .before) .args in
+    getD (a .queue .now) (c .before .loop .j) 0 < read (a .rack .now) .n
+inside c =
+    let s = start (c .before) in
+    let l = take (s .args .k) (s .args .queue .now) in
+    subst (λ (v : ℕ). v < read (s .args .rack .now) .n) (entry c)
+    (All-at (λ v. v < read (s .args .rack .now) .n) l (s .pre .1 .1) _
+    (getD-mem l (c .before .loop .j) (omega (arith, length-first (s .args .k) (s .args .queue .now) (s .pre .1 .0), c .loop-test .taken))))
+
+there : (c : tie.In-loop Inv-loop μ-loop) → c .before .loop .j < length (start (c .before) .args .queue .now)
+there c = omega (arith, start (c .before) .pre .1 .0, c .loop-test .taken)
+
+mul-v : tie.Need-mul-v Inv-loop μ-loop
+mul-v c = let h = there c in search needs
+
+shared-slice-read-v : tie.Need-shared-slice-read-v Inv-loop μ-loop
+shared-slice-read-v c = there (c .before)
+
+cast-v : tie.Need-cast-v Inv-loop μ-loop
+cast-v c = record { fits = omega (arith, c .shared-slice-known3 .given (c .before .before .loop .j)) }
 
 rank-requires : tie.Need-rank-requires Inv-loop μ-loop
-rank-requires c κs = (held-sized (held c), held-small (held c) _ (below c))
+rank-requires c κs =
+    let h = start (c .before .before) .pre .0 in (held-sized h, held-small h _ (inside (c .before)))
 
-mate-requires : tie.Need-mate-requires Inv-loop μ-loop
-mate-requires c κs = let d = c .before .before in (held-sized (held d), held-small (held d) _ (below d))
-
-add-next : tie.Need-add-next Inv-loop μ-loop
-add-next c = let d = c .before .before in omega (arith, held-small (held d) _ (below d))
-
-next-requires-2 : tie.Need-next-requires-2 Inv-loop μ-loop
-next-requires-2 c κs =
-    let d = c .before .before in
-    omega (arith, d .before .before .before .before .before .before .pre .1 .wide, held-small (held d) _ (below d))
+add-j : tie.Need-add-j Inv-loop μ-loop
+add-j c = let h = there (c .before .before .before) in search needs
 
 loop-less : tie.Need-loop-less Inv-loop μ-loop
-loop-less c = omega (arith, c .next2 .ensures .after, c .before .before .before .loop-test .taken)
+loop-less c = omega (arith, c .before .before .before .loop-test .taken)
 
--- at the end of a turn
-turn : (c : tie.After-next2 Inv-loop μ-loop) →
-    let l = c .before .before .before .before in
-    let a = l .before .before .before .before .before .args in
-    Turn (a .rack .now) (a .pending .now) (l .loop .best) (l .loop .at) (l .loop .v) (c .next2 .result)
-turn c =
-    let d = c .before .before .before in
-    record {
-      held = held d;
-      pends = d .before .before .before .before .before .before .pre .1;
-      found = d .before .loop .inv;
-      inside = below d;
-      next = c .next2 .ensures;
-    }
+-- the rank that was read is that of the vertex at place j
+ranked : (c : tie.After-rank Inv-loop μ-loop) →
+    let l = c .before .before .before in
+    let a = start l .args in
+    c .rank .result ≡ read (a .rack .now) .rank (getD (take (a .k) (a .queue .now)) (l .loop .j) 0)
+ranked c =
+    let i = c .before .before in
+    let s = start (i .before) in
+    c .rank .ensures ∙ held-rank (s .pre .0) _ (held-small (s .pre .0) _ (inside i)) ∙ ap (read (s .args .rack .now) .rank) (sym (entry i))
 
 loop-again : tie.Need-loop-again Inv-loop μ-loop
 loop-again c =
-    let r = c .before .before .rank .ensures in
-    ⊎-elim
-    (λ w. turn-more (turn c) (w .3 ∙ r) (w .4) (omega (arith, r, w .0 .taken)) (sym (w .1 .ensures) ∙ w .2 .taken))
-    (⊎-elim
-    (λ w. turn-same (turn c) (w .3) (w .4) (λ e. absurd (w .2 .left (w .1 .ensures ∙ e))))
-    (λ w. turn-same (turn c) (w .1) (w .2) (λ e. omega (arith, r, w .0 .left))))
-    (c .before .if1 .came)
+    let r = c .before in
+    let i = r .before .before in
+    let l = i .before in
+    let a = start l .args in
+    let f = read (a .rack .now) .rank in
+    let q = take (a .k) (a .queue .now) in (
+      ⊎-elim
+          (λ w. rw (w .1 ∙ ranked r, w .2 ∙ sym (entry i)) (best-more f q (l .loop .inv .0) (omega (arith, ranked r, w .0 .taken))))
+          (λ w. rw (w .1, w .2) (best-same f q (l .loop .inv .0) (omega (arith, ranked r, w .0 .left))))
+          (c .if1 .came),
+      omega (arith, i .loop-test .taken),
+    )
 
--- after the loop the rack is held, and every vertex was passed
-held-then : (c : tie.After-loop Inv-loop μ-loop) → Held (c .before .before .before .before .before .before .args .rack .now)
-held-then c = c .before .before .before .before .before .before .pre .0
-
-past : (c : tie.After-loop Inv-loop μ-loop) → read (c .before .before .before .before .before .before .args .rack .now) .n ≤ c .before .loop .v
-past c = omega (arith, c .loop-test .left, c .before .before .before .size .ensures, held-size (held-then c))
+-- every place was looked at
+past : (c : tie.After-loop Inv-loop μ-loop) →
+    let a = start (c .before) .args in
+    c .before .loop .j ≡ length (take (a .k) (a .queue .now))
+past c =
+    let s = start (c .before) in
+    omega (arith, length-first (s .args .k) (s .args .queue .now) (s .pre .1 .0), c .loop-test .left, c .before .loop .inv .1)
 
 returns : tie.Need-returns Inv-loop μ-loop
-returns c = sym (best-nothing _ _ _ _ _ (c .before .before .loop .inv) (past (c .before)) (c .if3 .taken))
+returns c = sym (best-nothing (c .before .before .loop .inv .0) (past (c .before)) (suc (base .top)) (c .if2 .taken))
 
-sub-t13 : tie.Need-sub-t13 Inv-loop μ-loop
-sub-t13 c = omega arith
+-- ranks are small
+small : (c : tie.Else2 Inv-loop μ-loop) → (1 ≤ c .before .before .loop .best) × (c .before .before .loop .best ≤ suc (base .top))
+small c =
+    let l = c .before .before in
+    let b : 1 ≤ l .loop .best = omega (arith, c .if2 .left) in
+    let f = l .loop .inv .0 .is b in
+    (b, omega (arith, f .ranked, start l .pre .0 .proper .ranks (l .loop .at)))
 
-cast-t14 : tie.Need-cast-t14 Inv-loop μ-loop
-cast-t14 c = omega (arith, best-small _ _ _ _ (held-then (c .before) .proper) (c .before .before .loop .inv))
+sub-t14 : tie.Need-sub-t14 Inv-loop μ-loop
+sub-t14 c = small c .0
+
+cast-t15 : tie.Need-cast-t15 Inv-loop μ-loop
+unfolding base
+cast-t15 c = omega (arith, small c)
 
 returns-2 : tie.Need-returns-2 Inv-loop μ-loop
-returns-2 c = sym (best-found _ _ _ _ (held-then (c .before) .proper) (c .before .before .loop .inv) (past (c .before)) (omega arith))
+returns-2 c = sym (best-found (c .before .before .loop .inv .0) (past (c .before)) (suc (base .top)) (small c .0) (small c .1))
 
 pub pick-spec : {M : Type 1} → statement M
 pick-spec =
@@ -100,16 +129,15 @@ pick-spec =
     (tie.spec
     Inv-loop
     μ-loop
-    size-requires
-    next-requires
     loop-holds
+    mul-v
+    shared-slice-read-v
+    cast-v
     rank-requires
-    mate-requires
-    add-next
-    next-requires-2
+    add-j
     loop-less
     loop-again
     returns
-    sub-t13
-    cast-t14
+    sub-t14
+    cast-t15
     returns-2)

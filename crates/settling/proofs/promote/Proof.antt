@@ -1,36 +1,43 @@
 -- `settling::promote` meets its contract. Assumes nothing.
 use borrow.Author.Needs.{needs}
 use Rattle.moves.proofs.Held.{held-sized, held-small}
-use Rattle.settling.proofs.Written.{Rising, lifted-held, lifted-draws, promoted-left}
+use Rattle.settling.proofs.Entries.{level-small}
+use Rattle.settling.proofs.Holding.{holds-part}
+use Rattle.settling.proofs.Written.{Rising, lifted-draws, promoted-left}
 use Rattle.settling.proofs.promote.Statement.{statement}
 use Rattle.settling.proofs.promote.Tie as tie
 
 rising : (c : tie.Start) → Rising (c .args .rack .now) (c .args .i) (c .args .u)
 rising c = record { held = c .pre .0 .0; ordered = c .pre .0 .1; inside = c .pre .1 .0 .0; low = c .pre .1 .0 .1; level = c .pre .1 .0 .2 }
 
-abbrev start : tie.After-lift → tie.Start
-start c = c .before .before .before .before .before .before
+-- the places, each from a later one
+abbrev start : tie.After-phi → tie.Start
+start c = c .before .before .before .before .before
 
-abbrev lifted : tie.After-degree → tie.After-lift
-lifted c = c .before .before .before .before .before .before
+abbrev counted : tie.After-lift → tie.After-phi
+counted c = c .before .before .before
+
+phi-requires : tie.Need-phi-requires
+phi-requires c κs =
+    let a = rising (c .before .before .before .before) in
+    (held-sized (a .held), (held-small (a .held) _ (a .inside), level-small _ (a .level)))
+
+cast-k : tie.Need-cast-k
+cast-k c = search needs
 
 lift-requires : tie.Need-lift-requires
 lift-requires c κs =
-    let s = c .before .before .before .before .before in (s .pre .0, (s .pre .1 .0 .0, s .pre .1 .0 .1, s .pre .1 .0 .2, s .pre .1 .1 .0 .wide))
-
-degree-requires : tie.Need-degree-requires
-degree-requires c κs =
-    let l = c .before .before .before .before .before in
-    let a = rising (start l) in
-    (held-sized (lifted-held a (l .lift .ensures .0)), held-small (a .held) _ (a .inside))
+    let s = start (c .before .before) in
+    let a = rising s in
+    (s .pre .0, ((a .inside, a .low, a .level), holds-part (s .pre .1 .1 .0) _ (a .inside)))
 
 draw-requires : tie.Need-draw-requires
 draw-requires c κs =
-    let d = c .before .before in
-    let l = lifted d in
-    let s = start l in
-    lifted-draws (rising s) (l .lift .ensures .0) (d .degree .result) (s .args .tally .draws) (s .pre .1 .0 .3) (s .pre .1 .1 .0)
-    (l .lift .ensures .1) (s .pre .1 .1 .1) (d .degree .ensures)
+    let l = c .before .before .before .before .before .before in
+    let p = counted l in
+    let s = start p in
+    lifted-draws (rising s) (l .lift .ensures .0) (s .pre .1 .1 .0) (l .lift .ensures .1) (l .lift .kept .1 .0) (p .phi .result)
+    (s .pre .1 .0 .3) (s .pre .1 .1 .1) (p .phi .ensures)
 
 same-length : tie.Need-same-length
 same-length c = search needs
@@ -41,9 +48,10 @@ same-length-2 c = search needs
 returns : tie.Need-returns
 returns c =
     let d = c .before .before .before .before in
-    let l = lifted (d .before .before .before) in
-    let s = start l in
-    promoted-left (rising s) (l .lift .ensures .0) (s .args .words .now) (s .args .tally) (d .draw .ensures)
+    let l = d .before .before .before .before .before .before .before in
+    let s = start (counted l) in
+    promoted-left (rising s) (l .lift .ensures .0) (s .pre .1 .1 .0) (l .lift .ensures .1) (l .lift .kept .1 .0) (s .args .words .now)
+    (d .draw .ensures)
 
 pub promote-spec : {M : Type 1} → statement M
-promote-spec = tie.close (tie.spec lift-requires degree-requires draw-requires same-length same-length-2 returns)
+promote-spec = tie.close (tie.spec phi-requires cast-k lift-requires draw-requires same-length same-length-2 returns)

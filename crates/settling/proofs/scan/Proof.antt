@@ -11,12 +11,12 @@ use Rattle.settling.proofs.scan.Statement.{statement}
 use Rattle.settling.proofs.scan.Tie as tie
 
 abbrev Inv-loop : tie.InvT-loop
-Inv-loop rack₀ pending₀ words v i n t₀ w₀ rack pending t w = Scanning words i v rack₀ t₀ rack pending t w
+Inv-loop rack₀ queue₀ words v i n t₀ w₀ rack queue t w = Scanning words i v rack₀ queue₀ t₀ rack queue t w
 
 abbrev μ-loop : tie.MeasureT-loop
-μ-loop rack₀ pending₀ words v i n t₀ w₀ rack pending t w = n - w
+μ-loop rack₀ queue₀ words v i n t₀ w₀ rack queue t w = n - w
 
-begun : (c : tie.Start Inv-loop μ-loop) → ScanFrom (c .args .words .now) (c .args .i) (c .args .v) (c .args .rack .now) (c .args .tally)
+begun : (c : tie.Start Inv-loop μ-loop) → ScanFrom (c .args .words .now) (c .args .i) (c .args .v) (c .args .rack .now) (c .args .queue .now) (c .args .tally)
 begun c = record { held = c .pre .0 .0; ordered = c .pre .0 .1; inside = c .pre .1 .0 .0; level = c .pre .1 .0 .1; row = c .pre .1 .0 .2 }
 
 size-requires : tie.Need-size-requires Inv-loop μ-loop
@@ -62,13 +62,13 @@ loop-again : tie.Need-loop-again Inv-loop μ-loop
 loop-again c =
     let v = c .before .before .before .before .before .before in
     let l = v .before .before .before .before in
-    scan-again (begun (start l)) (l .loop .inv) (inside (v .before .before .before)) (v .visit .ensures) (c .next-owned2 .ensures)
+    scan-again (begun (start l)) (l .loop .inv) (inside (v .before .before .before)) (v .visit .ensures) (v .visit .kept .1 .0) (c .next-owned2 .ensures)
 
 same-length : tie.Need-same-length Inv-loop μ-loop
 same-length c = left-sized (c .before .loop .inv .left) ∙ sym (held-sized (start (c .before) .pre .0 .0))
 
 same-length-2 : tie.Need-same-length-2 Inv-loop μ-loop
-same-length-2 c = search needs
+same-length-2 c = c .before .loop .inv .long
 
 returns : tie.Need-returns Inv-loop μ-loop
 returns c =

@@ -1,15 +1,17 @@
 -- `settling::settle` meets its contract. The loop's invariant is `TakingsLeft`: as many takings as are left lead from the bytes and the tally
 -- as they are now to where the settling leads. Assumes nothing.
 use mathlib.Core.Path.{_≡_, sym, ap, _∙_}
-use Prim.Native.Nat.{suc, _≤_}
+use Prim.Native.Nat.{suc, _≤_, _<_}
 use lib.ListN.{length}
 use native.Mathlib.Omega.{arith}
 use borrow.Author.Needs.{needs}
 use Rattle.model.specs.State.{base}
 use Rattle.model.specs.Bytes.{read}
 use Rattle.model.specs.Moves.{pick, found}
+use Rattle.theory.specs.Waiting.{queuesIn}
 use Rattle.moves.proofs.Held.{held-sized}
-use Rattle.settling.specs.Settling.{running, foundBy}
+use Rattle.settling.specs.Settling.{queueIn, running, foundBy}
+use Rattle.settling.proofs.Holding.{all-of}
 use Rattle.settling.proofs.SettleLoop.{
   taking-of,
   takings,
@@ -25,10 +27,10 @@ use Rattle.settling.proofs.settle.Statement.{statement}
 use Rattle.settling.proofs.settle.Tie as tie
 
 abbrev Inv-loop : tie.InvT-loop
-Inv-loop rack₀ pending₀ words left₀ t₀ rack pending left t = TakingsLeft words (running rack₀ t₀) rack pending left t
+Inv-loop rack₀ queue₀ words left₀ t₀ rack queue left t = TakingsLeft words (running rack₀ queue₀ t₀) (length queue₀) rack queue left t
 
 abbrev μ-loop : tie.MeasureT-loop
-μ-loop rack₀ pending₀ words left₀ t₀ rack pending left t = left
+μ-loop rack₀ queue₀ words left₀ t₀ rack queue left t = left
 
 size-requires : tie.Need-size-requires Inv-loop μ-loop
 size-requires c κs = held-sized (c .before .before .before .before .pre .0 .0)
@@ -51,7 +53,10 @@ loop-holds c =
     going-start _ _ _ _ _ (p .0 .0) (p .0 .1) (p .1 .0) (p .1 .1) (takings (p .0 .0) _ _ (c .before .size .ensures) (c .top .ensures))
 
 pick-requires : tie.Need-pick-requires Inv-loop μ-loop
-pick-requires c κs = let g = c .before .before .before .loop .inv in (g .held, g .pends)
+pick-requires c κs =
+    let l = c .before .before .before .loop in
+    let h = l .inv .holds in
+    (l .inv .held, (h .within, all-of (λ v. v < read (l .rack) .n) (queueIn (l .queue) (l .t)) (λ v m. h .lists .only v m .0)))
 
 enum-known-i : tie.Need-enum-known-i Inv-loop μ-loop
 enum-known-i c = search needs
@@ -59,40 +64,40 @@ enum-known-i c = search needs
 enum-told : tie.Need-enum-told Inv-loop μ-loop
 enum-told c = search needs
 
--- a rack that is held has one length, and so has the row
+-- a rack that is held has one length, and the places lent stay as many
 rack-length : (c : tie.At-loop Inv-loop μ-loop) →
     let a = c .before .before .before .before .before .before .before .args in
     length (c .loop .rack) ≡ length (a .rack .now)
 rack-length c = held-sized (c .loop .inv .held) ∙ sym (held-sized (c .before .before .before .before .before .before .before .pre .0 .0))
 
-row-length : (c : tie.At-loop Inv-loop μ-loop) →
+queue-length : (c : tie.At-loop Inv-loop μ-loop) →
     let a = c .before .before .before .before .before .before .before .args in
-    length (c .loop .pending) ≡ length (a .pending .now)
-row-length c = c .loop .inv .pends .wide ∙ sym (c .before .before .before .before .before .before .before .pre .1 .0 .wide)
+    length (c .loop .queue) ≡ length (a .queue .now)
+queue-length c = c .loop .inv .long
 
 same-length : tie.Need-same-length Inv-loop μ-loop
 same-length c = rack-length (c .before .before .before .before .before .before)
 
 same-length-2 : tie.Need-same-length-2 Inv-loop μ-loop
-same-length-2 c = row-length (c .before .before .before .before .before .before)
+same-length-2 c = queue-length (c .before .before .before .before .before .before)
 
 returns : tie.Need-returns Inv-loop μ-loop
 returns c =
     going-rest (c .before .before .before .before .before .before .loop .inv)
     (sym (c .before .before .pick .ensures) ∙ ap foundBy (c .enum-told .given .1))
 
--- what was picked is the pick of the state
+-- what was picked is the pick of the queues
 picked : (c : tie.After-i Inv-loop μ-loop) →
-    let r = c .before .before .before .before .before .before .loop .rack in
-    pick (suc (base .top)) (read r) ≡ found (c .i .given .0 .0) (c .i .given .0 .1 .0)
+    let l = c .before .before .before .before .before .before .loop in
+    pick (suc (base .top)) (queuesIn (read (l .rack) .rank) (queueIn (l .queue) (l .t))) ≡ found (c .i .given .0 .0) (c .i .given .0 .1 .0)
 picked c = sym (c .before .before .pick .ensures) ∙ ap foundBy (c .i .given .1)
 
 take-requires : tie.Need-take-requires Inv-loop μ-loop
 take-requires c κs =
     let d = c .before .before .before in
     let g = d .before .before .before .before .before .before .loop .inv in
-    let a = taking-of _ _ _ (g .held .proper) (picked d) in
-    ((g .held, g .ordered), ((a .inside, a .free, a .rank, a .level), (g .pends, going-room g)))
+    let a = taking-of _ _ _ _ _ (g .held .proper) (g .holds) (picked d) in
+    ((g .held, g .ordered), ((a .inside, a .free, a .rank, a .level), (g .holds, going-room g)))
 
 -- a taking was left
 some-left : (c : tie.After-i Inv-loop μ-loop) → 1 ≤ c .before .before .before .before .before .before .loop .left
@@ -108,13 +113,13 @@ loop-again : tie.Need-loop-again Inv-loop μ-loop
 loop-again c =
     let d = c .before .before .before .before .before .before .before .before in
     going-on (d .before .before .before .before .before .before .loop .inv) (picked d) _ (omega (arith, some-left d))
-    (c .before .before .before .before .take .ensures)
+    (c .before .before .before .before .take .ensures) (c .before .before .before .before .take .kept .1 .0)
 
 same-length-3 : tie.Need-same-length-3 Inv-loop μ-loop
 same-length-3 c = rack-length (c .before)
 
 same-length-4 : tie.Need-same-length-4 Inv-loop μ-loop
-same-length-4 c = row-length (c .before)
+same-length-4 c = queue-length (c .before)
 
 returns-2 : tie.Need-returns-2 Inv-loop μ-loop
 returns-2 c = going-used (c .before .loop .inv) (omega arith)

@@ -7,7 +7,8 @@ use Rattle.model.specs.Bytes.{read}
 use Rattle.model.specs.Moves.{due}
 use Rattle.moves.proofs.Held.{held-sized, held-small}
 use Rattle.settling.proofs.Steps.{due-low}
-use Rattle.settling.proofs.Turns.{level-small, Visiting, turn-high, turn-few, turn-due, turn-passed, turn-promoted}
+use Rattle.settling.proofs.Entries.{level-small}
+use Rattle.settling.proofs.Turns.{Visiting, turn-high, turn-few, turn-due, turn-passed, turn-promoted}
 use Rattle.settling.proofs.visit.Statement.{statement}
 use Rattle.settling.proofs.visit.Tie as tie
 
@@ -72,7 +73,7 @@ returns-3 c =
     let p = c .before .before .before .before in
     let e = p .before .before .before in
     let s = start e in
-    turn-promoted (visiting s) (s .args .words .now) (s .args .tally) (is-due e) (p .promote .ensures)
+    turn-promoted (visiting s) (s .args .words .now) (s .args .queue .now) (s .args .tally) (is-due e) (p .promote .ensures)
 
 pub visit-spec : {M : Type 1} → statement M
 visit-spec =

@@ -10,6 +10,10 @@ fn main() -> ExitCode {
                 tally.most_draws, tally.most_falls, tally.standing
             );
             println!(
+                "{} changes of walks come out otherwise with the lowest number first",
+                tally.decided
+            );
+            println!(
                 "reference: {} changes tried, all checks hold",
                 tally.changes
             );

@@ -6,14 +6,14 @@ use super::{holds, same, Tally, Verdict};
 use crate::{audit, change_with_pairs, Answer, Rack};
 
 /// A hand-worked change: what goes in and what must come out.
-struct Case {
-    name: &'static str,
-    rack: Rack,
-    change: (u32, u32, u32),
-    words: Vec<u32>,
-    draws: Vec<(u32, u32)>,
-    falls: u32,
-    after: Rack,
+pub struct Case {
+    pub name: &'static str,
+    pub rack: Rack,
+    pub change: (u32, u32, u32),
+    pub words: Vec<u32>,
+    pub draws: Vec<(u32, u32)>,
+    pub falls: u32,
+    pub after: Rack,
 }
 
 pub fn hand_worked(tally: &mut Tally) -> Verdict {
@@ -36,7 +36,8 @@ pub fn hand_worked(tally: &mut Tally) -> Verdict {
     Ok(format!("{} cases worked by hand: ok", cases.len()))
 }
 
-fn play(case: &Case) -> Result<(), String> {
+/// Makes the change, and looks at all that it must come to.
+pub fn play(case: &Case) -> Result<(), String> {
     let mut bytes = case.rack.to_bytes();
     same("audit before", audit(&bytes), (0, true))?;
     let (code, a, b) = case.change;

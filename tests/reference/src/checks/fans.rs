@@ -95,7 +95,10 @@ pub fn fans(tally: &mut Tally) -> Verdict {
     }
     same("draws of the largest fan", tally.most_draws, 48)?;
     same("falls of the largest fan", tally.most_falls, 296)?;
-    Ok(format!("{} from fans: ok", tally.since(&earlier, &[0])?))
+    Ok(format!(
+        "{} from fans: ok",
+        tally.walked_since(&earlier, &[0])?
+    ))
 }
 
 /// The drop with words that make every rib draw its second own board.

@@ -9,8 +9,10 @@ pub mod exact;
 pub mod facts;
 pub mod fans;
 pub mod makers;
+pub mod order;
 pub mod random;
 pub mod refusals;
+pub mod rival;
 pub mod shape;
 pub mod small;
 pub mod texts;
@@ -35,6 +37,8 @@ pub struct Tally {
     pub most_falls: u32,
     /// New pairs standing at each level after their change.
     pub standing: [u64; 4],
+    /// Changes of walks that come out otherwise with the lowest number first.
+    pub decided: u64,
 }
 
 impl Tally {
@@ -61,6 +65,13 @@ impl Tally {
         Ok(format!(
             "{changes} changes, {refused} refused, {draws} draws"
         ))
+    }
+
+    /// The same of changes of walks, with how many of them the order decides.
+    pub fn walked_since(&self, earlier: &Tally, numbers: &[usize]) -> Verdict {
+        let tried = self.since(earlier, numbers)?;
+        let decided = self.decided - earlier.decided;
+        Ok(format!("{tried}, {decided} decided by the order,"))
     }
 }
 
@@ -92,10 +103,11 @@ pub fn holds(what: &str, yes: bool) -> Result<(), String> {
 pub fn all(print: &mut dyn FnMut(&str)) -> Result<Tally, String> {
     let mut tally = Tally::default();
     type Check = fn(&mut Tally) -> Verdict;
-    let checks: [Check; 14] = [
+    let checks: [Check; 15] = [
         bench::worked_example,
         bench::bench_cases,
         cases::hand_worked,
+        order::first_served,
         fans::fans,
         refusals::calls_turned_back,
         refusals::changes_turned_back,
@@ -113,5 +125,6 @@ pub fn all(print: &mut dyn FnMut(&str)) -> Result<Tally, String> {
         print(&line);
     }
     came("a new pair at level", &tally.standing, &[0, 1, 2, 3])?;
+    holds("the order decides some changes", tally.decided > 0)?;
     Ok(tally)
 }

@@ -3,8 +3,9 @@
 
 use super::book::Book;
 use super::random::Random;
+use super::rival::{order_decides, order_may_decide};
 use super::{facts, holds, same, shape, Tally};
-use crate::{change, change_with_pairs, sound, Answer};
+use crate::{change, change_with_pairs, sound, Answer, Rack};
 use std::panic::{catch_unwind, AssertUnwindSafe};
 
 /// An answer and its new pairs.
@@ -71,6 +72,8 @@ impl Walk {
             self.look()?;
             facts::of_answer(&self.rack, &self.book, &answer, &new_pairs)?;
             self.look_at_start(&before, code, (a, b), words, &new_pairs)?;
+            let decided = self.decided(&before, (code, a, b), words, &answer)?;
+            tally.decided += u64::from(decided);
         }
         self.count(tally, &answer, &new_pairs);
         Ok(answer)
@@ -118,6 +121,22 @@ impl Walk {
         holds("nothing is drawn", came.is_none())?;
         let plain = facts::only_link_changed(before, code == 1, a, b);
         holds("only the link changes", self.rack == plain)
+    }
+
+    /// Whether the order decides what the last change came to.
+    fn decided(
+        &self,
+        before: &[u8],
+        change: (u32, u32, u32),
+        words: &[u32],
+        answer: &Answer,
+    ) -> Result<bool, String> {
+        if !order_may_decide(answer) {
+            return Ok(false);
+        }
+        let [before, after] = [before, &self.rack].map(Rack::from_bytes);
+        let (before, after) = before.zip(after).ok_or("a rack is not sound")?;
+        Ok(order_decides(&before, change, words, answer, &after))
     }
 
     fn count(&self, tally: &mut Tally, answer: &Answer, new_pairs: &[(u32, u32)]) {

@@ -39,7 +39,7 @@ pub fn from_empty_racks(tally: &mut Tally) -> Verdict {
             }
         }
     }
-    let tried = tally.since(&earlier, &[0, 7, 8, 9, 10, 11, 12])?;
+    let tried = tally.walked_since(&earlier, &[0, 7, 8, 9, 10, 11, 12])?;
     let high = tally.standing[3] - earlier.standing[3];
     holds("some lists reach level 3", high > 0)?;
     Ok(format!(
@@ -57,7 +57,7 @@ const MANY_BOARDS: [(usize, usize, u64, usize); 3] =
 pub fn from_random_racks(tally: &mut Tally) -> Verdict {
     let earlier = tally.clone();
     let racks = from_racks(&FEW_BOARDS, tally)?;
-    let tried = tally.since(&earlier, &[0, 7, 8, 9, 10, 11, 12])?;
+    let tried = tally.walked_since(&earlier, &[0, 7, 8, 9, 10, 11, 12])?;
     Ok(format!(
         "{tried} from {racks} random sound racks of 1 to 60 boards: ok"
     ))
@@ -66,7 +66,7 @@ pub fn from_random_racks(tally: &mut Tally) -> Verdict {
 pub fn from_large_random_racks(tally: &mut Tally) -> Verdict {
     let earlier = tally.clone();
     let racks = from_racks(&MANY_BOARDS, tally)?;
-    let tried = tally.since(&earlier, &[0, 7, 8, 9, 10, 11, 12])?;
+    let tried = tally.walked_since(&earlier, &[0, 7, 8, 9, 10, 11, 12])?;
     let high = tally.standing[3] - earlier.standing[3];
     holds("some large racks draw at level 3", high > 0)?;
     let told = format!("{tried} from {racks} random sound racks of 66 to 256 boards");

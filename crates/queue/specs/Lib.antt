@@ -1,0 +1,2 @@
+-- The definitions that the contracts of `queue` cite.
+pub mod Places
