@@ -1,6 +1,5 @@
--- Document 01, "Elementary moves" and "The settling", with the queues of request W-203. A level i is a number from 0 on; a vertex at
--- level i has rank i + 1.
--- Assumes nothing.
+-- Document 01, "Elementary moves" and "The settling", with the queues of document 02, W-203. A level i is a number from 0 on; a vertex at
+-- level i has rank i + 1. Assumes nothing.
 use mathlib.Core.Bool.{Bool, true, false, not, _&&_}
 use mathlib.Core.List.{List, [], _∷_, _++_}
 use Prim.Native.Nat.{ℕ, zero, suc, _*_, _%_}
@@ -14,9 +13,9 @@ pub record Ends : Type 0 where
   pub a : ℕ
   pub b : ℕ
 
--- A change on its way: the rack, the queues, the new pairs (u, y) of its draws, the last first, the words used, and the falls.
--- W-203, "the queues of source document 001": `queues i` are the vertices that wait at level i, the one that has waited there longest
--- first. They are no part of the rack: "No waiting board is stored between changes."
+-- A change on its way: the rack, the queues, the new pairs (u, y) of its draws, the last first, the words used, and the falls. W-203: "the
+-- queues of source document 001": `queues i` are the vertices that wait at level i, the one that has waited there longest first. They are no
+-- part of the rack: "No waiting board is stored between changes."
 pub record Run : Type 0 where
   pub state : State
   pub queues : ℕ → List ℕ
@@ -73,8 +72,8 @@ chosen words i u r =
     let l = listed (near (r .state) u i) (r .state .n) in
     getD l (place words (r .draws) (length l)) 0
 
--- "If the chosen y has a mate, that pair is parted. Then y rises to i, and u and y are mates.": y's former mate waits from now on, and
--- so does u's, which "comes before", if u rose for this draw
+-- "If the chosen y has a mate, that pair is parted. Then y rises to i, and u and y are mates.": y's former mate waits from now on, behind
+-- u's, if u rose for this draw
 unfoldable pub drawn : ℕ → ℕ → ℕ → Run → Run
 drawn i u y r = record {
   state = marry u y (rise i y (part y (r .state)));

@@ -4,7 +4,7 @@ ghost use mathlib.Core.Path.{_≡_};
 ghost use mathlib.Core.List.{[], _∷_, _++_};
 ghost use Prim.Native.Nat.{suc, _<_, _≤_};
 ghost use lib.Dec.{T};
-ghost use lib.ListN.{length, getD, take as firstOf};
+ghost use lib.ListN.{length, getD, take as front};
 ghost use Rattle.model.specs.Lists.{All, Mem, Distinct};
 ghost use Rattle.model.specs.State.{base, near, below};
 ghost use Rattle.model.specs.Bytes.{read, write};
@@ -243,8 +243,8 @@ fn take(
 // vertices, the first.
 fn pick(rack: &[u8], queue: &[u16], k: usize) -> Choice
     requires { ⌜ Held (now rack) ⌝ }
-    requires { ⌜ (k ≤ length (now queue)) × (All (λ v. v < read (now rack) .n) (firstOf k (now queue))) ⌝ }
-    ensures { λ r. ⌜ foundBy r ≡ picked (suc (base .top)) (queuesIn (read (now (rack .entry)) .rank) (firstOf k (now (queue .entry)))) ⌝ }
+    requires { ⌜ (k ≤ length (now queue)) × (All (λ v. v < read (now rack) .n) (front k (now queue))) ⌝ }
+    ensures { λ r. ⌜ foundBy r ≡ picked (suc (base .top)) (queuesIn (read (now (rack .entry)) .rank) (front k (now (queue .entry)))) ⌝ }
 {
     let mut best = 0;
     let mut at = 0;
