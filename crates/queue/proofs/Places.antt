@@ -5,10 +5,10 @@ use mathlib.Core.List.{List, [], _∷_, _++_}
 use Prim.Native.Nat.{ℕ, zero, suc, _+_, _-_, _≤_, _<_}
 use native.Mathlib.Omega.{arith}
 use lib.ListN.{length, getD, set, take, length-set}
-use Rattle.model.specs.Lists.{All, Mem, Distinct}
+use Rattle.model.specs.Lists.{Mem, Distinct}
 use Rattle.model.specs.Moves.{without}
-use Rattle.model.proofs.Tests.{eq?, eqb-yes, eqb-no}
-use Rattle.model.proofs.Lists.{All-at, getD-mem}
+use Rattle.model.proofs.Tests.{eq?}
+use Rattle.model.proofs.Lists.{All-at, getD-mem, without-yes, without-no, without-absent}
 use Rattle.queue.specs.Places.{removed}
 
 -- what is put behind the first k comes last
@@ -70,16 +70,13 @@ take-set (suc k) (y ∷ l) (suc x) v h = ap (λ (m : List ℕ). y ∷ m) (take-s
 
 -- the place of v, which stands once
 pub removed-without : (l : List ℕ) (at : ℕ) → Distinct l → at < length l → removed at l ≡ without (getD l at 0) l
-unfolding removed without
+unfolding removed
 removed-without [] at d h = absurd (omega arith)
-removed-without (x ∷ l) zero d h = rw (eqb-yes x x refl, without) (sym (absent l (d .0)))
-  where
-    absent : (m : List ℕ) → All (λ y. x ≢ y) m → without x m ≡ m
-    absent [] a = refl
-    absent (y ∷ m) a = rw (eqb-no y x (λ e. a .0 (sym e)), without) (ap (λ (k : List ℕ). y ∷ k) (absent m (a .1)))
+removed-without (x ∷ l) zero d h =
+    sym (without-yes x x l refl ∙ without-absent x l (λ m. All-at (λ y. x ≢ y) l (d .0) x m refl))
 removed-without (x ∷ l) (suc at) d h =
-    rw (eqb-no x (getD l at 0) (All-at (λ y. x ≢ y) l (d .0) (getD l at 0) (getD-mem l at (omega arith))), without)
-    (ap (λ (m : List ℕ). x ∷ m) (removed-without l at (d .1) (omega arith)))
+    ap (λ (m : List ℕ). x ∷ m) (removed-without l at (d .1) (omega arith))
+    ∙ sym (without-no (getD l at 0) x l (All-at (λ y. x ≢ y) l (d .0) (getD l at 0) (getD-mem l at (omega arith))))
 
 -- While they move up: the place that is still to be closed is j.
 pub record MovingUp (old : List ℕ) (k at : ℕ) (l : List ℕ) (j : ℕ) : Type 0 where

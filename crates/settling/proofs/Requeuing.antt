@@ -8,7 +8,8 @@ use lib.ListN.{length, take}
 use Rattle.model.specs.Lists.{Mem}
 use Rattle.model.specs.Moves.{without}
 use Rattle.theory.specs.Waiting.{Marks, joinQueue, partQueue}
-use Rattle.theory.proofs.Arrivals.{without-absent, joins-none, joins-some, queue-free, queue-mated}
+use Rattle.model.proofs.Lists.{without-absent}
+use Rattle.theory.proofs.Arrivals.{joins-none, joins-some, queue-free, queue-mated}
 use Rattle.settling.specs.Settling.{queueIn, Requeued, Room}
 use Rattle.settling.specs.declared.tally.Tally.{Tally}
 

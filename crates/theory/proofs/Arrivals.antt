@@ -9,7 +9,7 @@ use Rattle.model.specs.Lists.{All, Mem, Distinct, Lists}
 use Rattle.model.specs.State.{State, free}
 use Rattle.model.specs.Moves.{without, leave, join, parting}
 use Rattle.model.proofs.Tests.{eq?, eqb-yes, eqb-no}
-use Rattle.model.proofs.Lists.{upd-same, upd-other}
+use Rattle.model.proofs.Lists.{upd-same, upd-other, without-yes, without-no}
 use Rattle.theory.specs.Waiting.{Marks, marks, ofRank, queuesIn, joinQueue, partQueue}
 
 pub lists-as : {W X : ℕ → Type 0} {l : List ℕ} → ((v : ℕ) → W v → X v) → ((v : ℕ) → X v → W v) → Lists W l → Lists X l
@@ -20,33 +20,20 @@ lists-none f = record { once = tt; only = λ v m. absurd m; whole = λ v w. f v 
 
 -- One leaves.
 module _ (u : ℕ) where
-  pub without-yes : (w : ℕ) (l : List ℕ) → w ≡ u → without u (w ∷ l) ≡ without u l
-  unfolding without
-  without-yes w l e = rw (eqb-yes w u e, without) refl
-
-  pub without-no : (w : ℕ) (l : List ℕ) → w ≢ u → without u (w ∷ l) ≡ w ∷ without u l
-  unfolding without
-  without-no w l d = rw (eqb-no w u d, without) refl
-
-  pub without-absent : (l : List ℕ) → (Mem u l → ⊥) → without u l ≡ l
-  unfolding without
-  without-absent [] h = refl
-  without-absent (w ∷ l) h = without-no w l (λ e. h (inl (sym e))) ∙ ap (λ (k : List ℕ). w ∷ k) (without-absent l (λ m. h (inr m)))
-
   without-all : (P : ℕ → Type 0) (l : List ℕ) → All P l → All P (without u l)
   unfolding without
   without-all P [] h = tt
   without-all P (w ∷ l) h = elim (eq? w u) [
-    | inl e ↦ rw (without-yes w l e) (without-all P l (h .1))
-    | inr d ↦ rw (without-no w l d) (h .0, without-all P l (h .1))
+    | inl e ↦ rw (without-yes u w l e) (without-all P l (h .1))
+    | inr d ↦ rw (without-no u w l d) (h .0, without-all P l (h .1))
   ]
 
   without-once : (l : List ℕ) → Distinct l → Distinct (without u l)
   unfolding without
   without-once [] h = tt
   without-once (w ∷ l) h = elim (eq? w u) [
-    | inl e ↦ rw (without-yes w l e) (without-once l (h .1))
-    | inr d ↦ rw (without-no w l d) (without-all (λ y. w ≢ y) l (h .0), without-once l (h .1))
+    | inl e ↦ rw (without-yes u w l e) (without-once l (h .1))
+    | inr d ↦ rw (without-no u w l d) (without-all (λ y. w ≢ y) l (h .0), without-once l (h .1))
   ]
 
   kept : (w : ℕ) (l : List ℕ) (v : ℕ) → w ≢ u → (Mem v (without u l) → Mem v l × (v ≢ u)) → (v ≡ w) ⊎ Mem v (without u l)
@@ -58,16 +45,16 @@ module _ (u : ℕ) where
   unfolding without
   without-only [] v m = absurd m
   without-only (w ∷ l) v m = elim (eq? w u) [
-    | inl e ↦ let k : Mem v l × (v ≢ u) = without-only l v (rw (without-yes w l e) at m) in (inr (k .0), k .1)
-    | inr d ↦ kept w l v d (λ k. without-only l v k) (rw (without-no w l d) at m)
+    | inl e ↦ let k : Mem v l × (v ≢ u) = without-only l v (rw (without-yes u w l e) at m) in (inr (k .0), k .1)
+    | inr d ↦ kept w l v d (λ k. without-only l v k) (rw (without-no u w l d) at m)
   ]
 
   without-whole : (l : List ℕ) (v : ℕ) → Mem v l → v ≢ u → Mem v (without u l)
   unfolding without
   without-whole [] v m d = absurd m
   without-whole (w ∷ l) v m d = elim (eq? w u) [
-    | inl e ↦ rw (without-yes w l e) (elim m [ inl f ↦ absurd (d (f ∙ e)) | inr k ↦ without-whole l v k d ])
-    | inr f ↦ rw (without-no w l f) (elim m [ inl e ↦ inl e | inr k ↦ inr (without-whole l v k d) ])
+    | inl e ↦ rw (without-yes u w l e) (elim m [ inl f ↦ absurd (d (f ∙ e)) | inr k ↦ without-whole l v k d ])
+    | inr f ↦ rw (without-no u w l f) (elim m [ inl e ↦ inl e | inr k ↦ inr (without-whole l v k d) ])
   ]
 
   pub lists-without : {W : ℕ → Type 0} {l : List ℕ} → Lists W l → Lists (λ v. W v × (v ≢ u)) (without u l)
