@@ -1,21 +1,25 @@
--- What a setter makes of an image: the image of the fields with one value changed. And images by their fields. Assumes nothing.
+-- What a setter makes of an image: the image of the fields with one value, or the places of one word, changed. And images by their fields.
+-- Assumes nothing.
 use mathlib.Core.Path.{_≡_, refl, sym, ap, ap₂, _∙_}
 use mathlib.Core.Logic.{_≢_, inl, inr}
-use mathlib.Core.Bool.{Bool, true, false}
+use mathlib.Core.Bool.{Bool, true, false, _&&_}
 use mathlib.Core.List.{List, [], _∷_, _++_}
-use Prim.Native.Nat.{ℕ, _+_, _-_, _*_, _/_, _%_, _^_, _<_}
+use Prim.Native.Nat.{ℕ, zero, suc, _+_, _-_, _*_, _/_, _%_, _^_, _≤_, _<_}
 use native.Mathlib.Omega.{arith}
+use lib.Dec.{T, leb, ltb, leb→le, le→leb, ltb→lt, lt→ltb}
 use lib.ListN.{length, getD, set, replicate, length-set}
-use lib.Seq.{set-append-left}
+use lib.Seq.{set-append-left, ext-getD}
 use lib.Bits.{bitAnd, bitOr}
 use Rattle.model.specs.Counting.{each, upd}
-use Rattle.model.specs.Bytes.{Fields, two, rowByte, image}
-use Rattle.model.proofs.Tests.{eq?}
+use Rattle.model.specs.Bytes.{Fields, bitOf, two, rowByte, image}
+use Rattle.model.proofs.Tests.{eq?, T-true, T-false, and-intro, and-left, and-right}
 use Rattle.model.proofs.Lists.{upd-same, upd-other}
-use Rattle.model.proofs.Chunks.{each-one-length}
-use Rattle.model.proofs.Fields.{heads, ranks, mates, phis, rows, parts, heads-length, ranks-length, mates-length, phis-length, row-byte}
+use Rattle.model.proofs.Chunks.{each-at, each-one-length, each-one-at, rowByte-of}
+use Rattle.model.proofs.Fields.{heads, ranks, mates, phis, rows, parts, heads-length, ranks-length, mates-length, phis-length, rows-length, row-byte}
 use Rattle.bitset.specs.Row.{inserted, removed}
-use Rattle.layout.specs.Setters.{setTwo, setEdges, setRank, setMate, setPhi, own, disown}
+use Rattle.bitset.specs.Words.{storedBytes, stored}
+use Rattle.bitset.proofs.Stored.{length-stored, stored-in, stored-out, bit-byte}
+use Rattle.layout.specs.Setters.{setTwo, setEdges, setRank, setMate, setPhi, own, disown, setWord}
 use Rattle.layout.proofs.Pieces.{set-behind, each-ext, set-each, each-one-ext, set-each-one, rowByte-ext, rowByte-other, rowByte-or, rowByte-and}
 
 -- ---- what is set in a part of an image
@@ -85,6 +89,14 @@ withPhi f v j x =
 unfoldable pub withOwns : Fields → ℕ → ℕ → Bool → Fields
 withOwns f v w b =
     record { n = f .n; edges = f .edges; rank = f .rank; mate = f .mate; phi = f .phi; owns = upd (f .owns) v (upd (f .owns v) w b) }
+
+-- the places 64 k to 64 k + 63 of row v those that pass p
+unfoldable pub worded : (ℕ → Bool) → ℕ → (ℕ → Bool) → ℕ → Bool
+worded row k p w = elim (leb (64 * k) w && ltb w (64 * k + 64)) [ true ↦ p w | false ↦ row w ]
+
+unfoldable pub withWord : Fields → ℕ → ℕ → (ℕ → Bool) → Fields
+withWord f v k p =
+    record { n = f .n; edges = f .edges; rank = f .rank; mate = f .mate; phi = f .phi; owns = upd (f .owns) v (worded (f .owns v) k p) }
 
 -- ---- each setter on an image
 
@@ -186,3 +198,83 @@ disown-image f v w l k =
     ap₂ (λ (i j : ℕ). set (image f) i (bitAnd (getD (image f) i 0) (255 - 2 ^ j))) (place-byte v w) (place-bit v w)
     ∙ set-row f v w _ false l k
     (ap (λ (x : ℕ). bitAnd x (255 - 2 ^ (w % 8))) (row-byte f v (w / 8) l (omega arith)) ∙ rowByte-and (f .owns v) w)
+
+-- ---- a whole word of a row
+
+module _ (f : Fields) (v k : ℕ) (p : ℕ → Bool) where
+  pub word-in : (u w : ℕ) → u ≡ v → 64 * k ≤ w → w < 64 * k + 64 → withWord f v k p .owns u w ≡ p w
+  unfolding withWord worded
+  word-in u w e a b =
+      let low = leb (64 * k) w in
+      let high = ltb w (64 * k + 64) in
+      let yes : T (low && high) = and-intro low high (le→leb (64 * k) w a) (lt→ltb w (64 * k + 64) b) in
+      ap (λ (row : ℕ → Bool). row w) (upd-same (f .owns) v (worded (f .owns v) k p) u e) ∙ rw (T-true {b = low && high} yes, worded) refl
+
+  pub word-out : (u w : ℕ) → (u ≡ v → 64 * k ≤ w → w < 64 * k + 64 → ⊥) → withWord f v k p .owns u w ≡ f .owns u w
+  unfolding withWord worded
+  word-out u w out =
+      let low = leb (64 * k) w in
+      let high = ltb w (64 * k + 64) in
+      elim (eq? u v) [
+        | inl e ↦
+            let no : T (low && high) → ⊥ = λ t. out e (leb→le (64 * k) w (and-left low high t)) (ltb→lt w (64 * k + 64) (and-right low high t)) in
+            ap (λ (row : ℕ → Bool). row w) (upd-same (f .owns) v (worded (f .owns v) k p) u e)
+            ∙ rw (T-false {b = low && high} no, worded) (ap (λ (y : ℕ). f .owns y w) (sym e))
+        | inr d ↦ ap (λ (row : ℕ → Bool). row w) (upd-other (f .owns) v (worded (f .owns v) k p) u d)
+      ]
+
+-- the bytes of the rows
+rows-at : (f : Fields) (u b : ℕ) → u < 256 → b < 32 → getD (rows f) (32 * u + b) 0 ≡ rowByte (f .owns u) b
+rows-at f u b l h =
+    each-at 32 _ (λ u. each-one-length (rowByte (f .owns u)) 32) 256 u b 0 l h ∙ each-one-at (rowByte (f .owns u)) 32 b 0 h
+
+-- a word stored behind some parts leaves those parts as they are
+past-stored : (f : Fields) (t : List ℕ) (i x m : ℕ)
+    → storedBytes (heads f ++ (ranks f ++ (mates f ++ (phis f ++ t)))) (1800 + i) x m
+    ≡ heads f ++ (ranks f ++ (mates f ++ (phis f ++ storedBytes t i x m)))
+unfolding storedBytes
+past-stored f t i x zero = refl
+past-stored f t i x (suc m) =
+    let e : 1800 + i + m ≡ 1800 + (i + m) = omega arith in
+    let b = x / 2 ^ (8 * m) % 256 in
+    ap₂ (λ (s : List ℕ) (n : ℕ). set s n b) (past-stored f t i x m) e ∙ past-phis f (storedBytes t i x m) (i + m) b
+
+module _ (f : Fields) (v k x : ℕ) (p : ℕ → Bool) (l : v < 256) (c : 64 * k < 256) (same : (j : ℕ) → j < 64 → bitOf x j ≡ p (64 * k + j)) where
+  -- a byte of the rows: within the word it is one of x, elsewhere it stays
+  stored-byte : (u b : ℕ) → u < 256 → b < 32 → getD (stored (rows f) (32 * v + 8 * k) x) (32 * u + b) 0 ≡ rowByte (withWord f v k p .owns u) b
+  stored-byte u b d h = elim (eq? (4 * u + b / 8) (4 * v + k)) [
+    | inl e ↦
+        let a = b % 8 in
+        let i : 32 * u + b ≡ 32 * v + 8 * k + a = omega arith in
+        ap (λ (n : ℕ). getD (stored (rows f) (32 * v + 8 * k) x) n 0) i
+        ∙ stored-in (rows f) (32 * v + 8 * k) x a (omega arith) (omega (arith, rows-length f))
+        ∙ sym (rowByte-of (x / 2 ^ (8 * a) % 256) (omega arith) (withWord f v k p .owns u) b (λ j m.
+        let q : 8 * b + j ≡ 64 * k + (8 * a + j) = omega arith in
+        word-in f v k p u (8 * b + j) (omega arith) (omega arith) (omega arith) ∙ ap p q ∙ sym (same (8 * a + j) (omega arith)) ∙ sym (bit-byte x a j m)))
+    | inr n ↦
+        stored-out (rows f) (32 * v + 8 * k) x (32 * u + b) (λ a m. n (omega arith)) ∙ rows-at f u b d h
+        ∙ rowByte-ext (f .owns u) (withWord f v k p .owns u) b (λ j m. sym (word-out f v k p u (8 * b + j) (λ e q r. n (omega arith))))
+  ]
+
+  stored-rows : stored (rows f) (32 * v + 8 * k) x ≡ rows (withWord f v k p)
+  stored-rows =
+      let g = withWord f v k p in
+      let old = stored (rows f) (32 * v + 8 * k) x in
+      let long : length old ≡ 8192 = length-stored (rows f) (32 * v + 8 * k) x ∙ rows-length f in
+      ext-getD 0 old (rows g) (long ∙ sym (rows-length g))
+      (λ i h.
+      let u = i / 32 in
+      let b = i % 32 in
+      let e : i ≡ 32 * u + b = omega arith in
+      let d : u < 256 = omega (arith, long) in
+      ap (λ (n : ℕ). getD old n 0) e ∙ stored-byte u b d (omega arith) ∙ sym (rows-at g u b d (omega arith))
+      ∙ ap (λ (n : ℕ). getD (rows g) n 0) (sym e))
+
+pub setWord-image : (f : Fields) (v k x : ℕ) (p : ℕ → Bool) → v < 256 → 64 * k < 256 → x < 2 ^ 64
+    → ((j : ℕ) → j < 64 → bitOf x j ≡ p (64 * k + j)) → setWord (image f) v k x ≡ image (withWord f v k p)
+unfolding stored withWord
+setWord-image f v k x p l c fits same =
+    let e : 1800 + 32 * v + 8 * k ≡ 1800 + (32 * v + 8 * k) = omega arith in
+    ap₂ (λ (s : List ℕ) (n : ℕ). storedBytes s n x 8) (parts f) e ∙ past-stored f (rows f) (32 * v + 8 * k) x 8
+    ∙ ap (λ (s : List ℕ). heads f ++ (ranks f ++ (mates f ++ (phis f ++ s)))) (stored-rows f v k x p l c same)
+    ∙ sym (parts (withWord f v k p))

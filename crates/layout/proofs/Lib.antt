@@ -6,3 +6,5 @@ pub mod Images
 pub mod Cleared
 pub mod Said
 pub mod Spans
+pub mod Walks
+pub mod Reached

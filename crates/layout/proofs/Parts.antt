@@ -21,6 +21,10 @@ owns-place bs v w =
     let q : (14400 + (256 * v + w)) % 8 ≡ w % 8 = omega arith in
     ap₂ (λ (x y : ℕ). bitOf (getD bs x 0) y) p q
 
+-- and as one of the row that begins at byte 1,800 + 32 v
+pub row-place : (v w : ℕ) → 8 * (1800 + 32 * v) + w ≡ 14400 + (256 * v + w)
+row-place v w = omega arith
+
 -- the row of v
 unfoldable pub rowOf : List ℕ → ℕ → List ℕ
 rowOf bs v = take 32 (drop (1800 + 32 * v) bs)
@@ -39,9 +43,7 @@ module _ (bs : List ℕ) (v : ℕ) (sized : Sized bs) (inside : v < most) where
 
   pub row-owns : (w : ℕ) → w < 256 → member (rowOf bs v) w ≡ ownsAt bs v w
   unfolding rowOf
-  row-owns w h =
-      let e : 8 * (1800 + 32 * v) + w ≡ 14400 + (256 * v + w) = omega arith in
-      member-part bs (1800 + 32 * v) 32 w (omega arith) ∙ ap (member bs) e ∙ owns-place bs v w
+  row-owns w h = member-part bs (1800 + 32 * v) 32 w (omega arith) ∙ ap (member bs) (row-place v w) ∙ owns-place bs v w
 
   count-row : (m : ℕ) → m ≤ 256 → count (member (rowOf bs v)) m ≡ count (ownsAt bs v) m
   count-row m h = count-ext (member (rowOf bs v)) (ownsAt bs v) m (λ w k. row-owns w (omega arith))

@@ -5,6 +5,7 @@ use Prim.Native.Nat.{ℕ, _+_, _*_, _/_, _%_}
 use lib.ListN.{length, set, replicate}
 use Rattle.model.specs.Bytes.{rackLength}
 use Rattle.bitset.specs.Row.{inserted, removed}
+use Rattle.bitset.specs.Words.{stored}
 
 -- the bytes are as many as a rack has
 abbrev pub Sized : List ℕ → Type 0
@@ -36,6 +37,10 @@ own bs v w = inserted bs (14400 + (256 * v + w))
 
 abbrev pub disown : List ℕ → ℕ → ℕ → List ℕ
 disown bs v w = removed bs (14400 + (256 * v + w))
+
+-- the 64 places of row v from 64 k on become the bits of x: eight bytes
+abbrev pub setWord : List ℕ → ℕ → ℕ → ℕ → List ℕ
+setWord bs v k x = stored bs (1800 + 32 * v + 8 * k) x
 
 -- every byte zero, but for the mates' entries, which name none
 unfoldable pub blanked : List ℕ

@@ -15,6 +15,8 @@ ghost use Rattle.layout.specs.Setters.{Sized, setEdges, setRank, setMate
 ghost use Rattle.layout.specs.Rows.{degreeAt, NthOwned, NextOwned};
 
 pub mod unused;
+pub mod walk;
+pub mod words;
 
 // The bytes of a rack.
 pub const RACK_BYTES: usize = 9992;
@@ -180,14 +182,14 @@ pub fn linked(rack: &[u8], v: usize, w: usize) -> bool
     owns(rack, w, v)
 }
 
-// v owns the edge v-w from now on. The rows stand one after the other, so that the place is one of a single long row.
+// v owns the edge v-w from now on. As for `owns`, w is a place of v's row, and its byte and bit stay the same from row to row.
 pub fn own(rack: &mut [u8], v: usize, w: usize)
     requires { ⌜ Sized (now rack) ⌝ }
     requires { ⌜ v < mostOf ⌝ }
     requires { ⌜ w < mostOf ⌝ }
     ensures { λ _. ⌜ now (rack .exit) ≡ owned (now (rack .entry)) v w ⌝ }
 {
-    bitset::insert(rack, 14400 + (256 * v + w))
+    bitset::insert(rack, 1800 + 32 * v, w)
 }
 
 // v no longer owns the edge v-w.
@@ -197,7 +199,7 @@ pub fn disown(rack: &mut [u8], v: usize, w: usize)
     requires { ⌜ w < mostOf ⌝ }
     ensures { λ _. ⌜ now (rack .exit) ≡ disowned (now (rack .entry)) v w ⌝ }
 {
-    bitset::remove(rack, 14400 + (256 * v + w))
+    bitset::remove(rack, 1800 + 32 * v, w)
 }
 
 // How many edges vertex v owns.
@@ -222,7 +224,7 @@ pub fn nth_owned(rack: &[u8], v: usize, k: usize) -> usize
 }
 
 // The first vertex from `from` on to which v owns an edge, or `most` where there is none.
-pub fn next_owned(rack: &[u8], v: usize, from: usize) -> usize
+fn next_owned(rack: &[u8], v: usize, from: usize) -> usize
     requires { ⌜ Sized (now rack) ⌝ }
     requires { ⌜ v < mostOf ⌝ }
     requires { ⌜ from ≤ mostOf ⌝ }

@@ -1,23 +1,28 @@
 -- A walk along a vertex's row that gives each vertex met its new counts, with the rest of the bytes as they were. Assumes nothing.
 use mathlib.Core.Path.{_≡_, refl, sym, ap, _∙_, subst}
 use mathlib.Core.Logic.{_≢_, inl, inr}
-use mathlib.Core.Bool.{false}
+use mathlib.Core.Bool.{Bool, true, false}
 use mathlib.Core.List.{List}
 use Prim.Native.Nat.{ℕ, suc, _+_, _-_, _≤_, _<_}
 use native.Mathlib.Omega.{arith}
 use lib.Dec.{T, leb, leb→le}
 use lib.ListN.{length}
 use Rattle.model.specs.Counting.{upd}
-use Rattle.model.specs.State.{State, edge, near, phi}
-use Rattle.model.specs.Bytes.{sizeAt, rankAt, phiAt, ownsAt, image, fieldsOf, read, write}
+use Rattle.model.specs.State.{base, State, edge, near, phi}
+use Rattle.model.specs.Bytes.{rankAt, phiAt, ownsAt, image, fieldsOf, read, write}
 use Rattle.model.proofs.Tests.{eq?, le?, and-right}
 use Rattle.model.proofs.Lists.{upd-same, upd-other}
 use Rattle.model.proofs.Fields.{image-length, rank-image, phi-image, owns-image}
+use Rattle.model.proofs.Facts.{Says}
 use Rattle.layout.specs.Setters.{Sized, setPhi}
-use Rattle.layout.specs.Rows.{NextOwned}
+use Rattle.layout.specs.declared.walk.Cursor.{Cursor}
+use Rattle.layout.specs.Walks.{placeOf, Here, Stands, Further}
+use Rattle.layout.proofs.Said.{says-yes, says-no, says-by}
+use Rattle.layout.proofs.Walks.{further-same}
 use Rattle.moves.specs.Proper.{Proper, Held, RowBelow}
 use Rattle.moves.specs.Counts.{withCounts, step, recounted, loweredCounts, raisedCounts}
-use Rattle.moves.proofs.Held.{held-sized, held-size, held-small, held-owns, NextIn, next-in}
+use Rattle.moves.proofs.Held.{held-sized, held-small, held-owns}
+use Rattle.layout.proofs.Reached.{reached, reached-here, reached-end, Came, came, stands-as, further-as}
 use Rattle.moves.proofs.Choices.{hit-says, hit-of, lowered-yes, lowered-no, raised-yes, raised-no}
 use Rattle.moves.proofs.CountSteps.{counts-ext, recounted-image, setCount-image}
 
@@ -48,33 +53,33 @@ module _ (s : State) (g : ℕ → ℕ → ℕ) (bs : List ℕ) (e : Counted s g 
 
 -- ---- the walk
 
--- the vertices below w have their new counts, the others the old ones, and u owns the edge to w if there is such a vertex
-pub record RowCounted (s : State) (new : ℕ → ℕ → ℕ) (u : ℕ) (bs : List ℕ) (w : ℕ) : Type 0 where
+-- the vertices before the place that the walk has reached have their new counts, the others the old ones, and u owns the edge to that place
+pub record RowCounted (s : State) (new : ℕ → ℕ → ℕ) (u : ℕ) (bs : List ℕ) (c : Cursor) : Type 0 where
   pub counts : ℕ → ℕ → ℕ
   pub is : Counted s counts bs
-  pub done : (x j : ℕ) → x < w → counts x j ≡ new x j
-  pub left : (x j : ℕ) → w ≤ x → counts x j ≡ phi s x j
-  pub here : w < s .n → T (s .owns u w)
+  pub done : (x j : ℕ) → x < reached c → counts x j ≡ new x j
+  pub left : (x j : ℕ) → reached c ≤ x → counts x j ≡ phi s x j
+  pub here : 0 < c .rest → Here (s .owns u) (reached c) c
 
 -- the new counts change nothing where u owns no edge
 abbrev pub Quiet : State → (ℕ → ℕ → ℕ) → ℕ → Type 0
 Quiet s new u = (x j : ℕ) → (T (s .owns u x) → ⊥) → new x j ≡ phi s x j
 
 module _ (s : State) (new : ℕ → ℕ → ℕ) (u : ℕ) (quiet : Quiet s new u) where
-  pub walk-start : (bs : List ℕ) (r : ℕ) → bs ≡ write s → NextIn s u 0 r → RowCounted s new u bs r
+  pub walk-start : (bs : List ℕ) (r : Cursor) → bs ≡ write s → Came (s .owns u) 0 r → RowCounted s new u bs r
   walk-start bs r e n =
       record {
         counts = phi s;
         is = counted-write s bs e;
         done = λ x j l. sym (quiet x j (n .none x (omega arith) l));
         left = λ x j l. refl;
-        here = n .is;
+        here = n .here;
       }
 
   -- one vertex more, and on to the next
-  pub walk-step : (bs : List ℕ) (w : ℕ) (k : RowCounted s new u bs w) (next : List ℕ) (r : ℕ)
-      → Counted s (upd (k .counts) w (new w)) next → NextIn s u (w + 1) r → RowCounted s new u next r
-  walk-step bs w k next r e n =
+  pub walk-step : (bs : List ℕ) (c : Cursor) (k : RowCounted s new u bs c) (w : ℕ) → w ≡ reached c → (next : List ℕ) (r : Cursor)
+      → Counted s (upd (k .counts) w (new w)) next → Came (s .owns u) (suc w) r → RowCounted s new u next r
+  walk-step bs c k w at next r e n =
       let other : (x j : ℕ) → x ≢ w → upd (k .counts) w (new w) x j ≡ k .counts x j =
       λ x j d. ap (λ (f : ℕ → ℕ). f j) (upd-other (k .counts) w (new w) x d) in
       record {
@@ -83,24 +88,24 @@ module _ (s : State) (new : ℕ → ℕ → ℕ) (u : ℕ) (quiet : Quiet s new 
         done = λ x j l. elim (eq? x w) [
           | inl p ↦ ap (λ (f : ℕ → ℕ). f j) (upd-same (k .counts) w (new w) x p) ∙ ap (λ (y : ℕ). new y j) (sym p)
           | inr d ↦ other x j d ∙ elim (le? w x) [
-            | inl p ↦ k .left x j p ∙ sym (quiet x j (n .none x (omega arith) l))
-            | inr p ↦ k .done x j p
+            | inl p ↦ k .left x j (omega arith) ∙ sym (quiet x j (n .none x (omega arith) l))
+            | inr p ↦ k .done x j (omega arith)
           ]
         ];
         left = λ x j l. other x j (omega (arith, n .after)) ∙ k .left x j (omega (arith, n .after));
-        here = n .is;
+        here = n .here;
       }
 
   -- the row is walked
-  pub walk-end : Proper s → (bs : List ℕ) (w : ℕ) → s .n ≤ w → RowCounted s new u bs w → Counted s new bs
+  pub walk-end : Proper s → (bs : List ℕ) (c : Cursor) → c .rest ≡ 0 → RowCounted s new u bs c → Counted s new bs
   unfolding withCounts
-  walk-end p bs w l k =
-      k .is ∙ counts-ext (withCounts (fieldsOf s) (k .counts)) new (λ x j. elim (le? w x) [
-        | inl b ↦ quiet x j (λ t. omega (arith, p .inside u x t .1)) ∙ sym (k .left x j b)
+  walk-end p bs c z k =
+      k .is ∙ counts-ext (withCounts (fieldsOf s) (k .counts)) new (λ x j. elim (le? (reached c) x) [
+        | inl b ↦ quiet x j (λ t. omega (arith, reached-end c z, p .few, p .inside u x t .1)) ∙ sym (k .left x j b)
         | inr b ↦ sym (k .done x j b)
       ])
 
--- a walk along u's row of a held rack, as its loop goes: n is the size that was read
+-- a walk along u's row of a held rack, as its loop goes
 pub record Walk (bs₀ : List ℕ) (new : ℕ → ℕ → ℕ) (u : ℕ) : Type 0 where
   pub held : Held bs₀
   pub inside : u < read bs₀ .n
@@ -110,35 +115,41 @@ module _ {bs₀ : List ℕ} {new : ℕ → ℕ → ℕ} {u : ℕ} (W : Walk bs�
   pub u-small : u < 256
   u-small = held-small (W .held) u (W .inside)
 
-  pub row-starts : {r : ℕ} → NextOwned bs₀ u 0 r → RowCounted (read bs₀) new u bs₀ r
-  row-starts {r} n =
-      walk-start (read bs₀) new u (W .quiet) bs₀ r (W .held .written)
-      (next-in (read bs₀) (W .held .proper) bs₀ (held-owns (W .held)) u 0 r u-small n)
+  pub came-first : {r : Cursor} → Stands (ownsAt bs₀ u) 0 r → Came (read bs₀ .owns u) 0 r
+  came-first n = came (omega arith) (stands-as (λ w l. held-owns (W .held) u w u-small l) n)
 
-  module _ {bs : List ℕ} {n w : ℕ} (k : RowCounted (read bs₀) new u bs w) (size : n ≡ sizeAt bs₀) where
-    pub w-inside : w < n → w < read bs₀ .n
-    w-inside l = omega (arith, held-size (W .held))
+  pub row-starts : {r : Cursor} → Stands (ownsAt bs₀ u) 0 r → RowCounted (read bs₀) new u bs₀ r
+  row-starts {r} n = walk-start (read bs₀) new u (W .quiet) bs₀ r (W .held .written) (came-first n)
 
-    pub w-small : w < n → w < 256
-    w-small l = held-small (W .held) w (w-inside l)
-
-    pub w-owned : w < n → T (read bs₀ .owns u w)
-    w-owned l = k .here (w-inside l)
-
+  module _ {bs : List ℕ} {c : Cursor} (k : RowCounted (read bs₀) new u bs c) where
     pub w-sized : Sized bs
     w-sized = counted-sized (read bs₀) (k .counts) bs (k .is)
 
-    pub row-goes-on : {next : List ℕ} {r : ℕ} → Counted (read bs₀) (upd (k .counts) w (new w)) next → NextOwned next u (w + 1) r
-        → RowCounted (read bs₀) new u next r
-    row-goes-on {next} {r} e n =
-        walk-step (read bs₀) new u (W .quiet) bs w k next r e
-        (next-in (read bs₀) (W .held .proper) next (counted-owns (read bs₀) _ next e) u (w + 1) r u-small n)
-
-    pub row-ends : n ≤ w → Counted (read bs₀) new bs
-    row-ends l = walk-end (read bs₀) new u (W .quiet) (W .held .proper) bs w (omega (arith, held-size (W .held))) k
-
     pub same-size : length bs ≡ length bs₀
     same-size = w-sized ∙ sym (held-sized (W .held))
+
+    pub row-ends : c .rest ≡ 0 → Counted (read bs₀) new bs
+    row-ends z = walk-end (read bs₀) new u (W .quiet) (W .held .proper) bs c z k
+
+    -- a turn, at w
+    module _ {w : ℕ} (some : 0 < c .rest) (place : w ≡ placeOf (c .word) (c .rest)) where
+      pub w-reached : w ≡ reached c
+      w-reached = place ∙ sym (reached-here c some)
+
+      pub w-owned : T (read bs₀ .owns u w)
+      w-owned = subst (λ (x : ℕ). T (read bs₀ .owns u x)) (sym place) (k .here some .is)
+
+      pub w-small : w < 256
+      w-small = omega (arith, W .held .proper .inside u w w-owned .1, W .held .proper .few)
+
+      module _ {next : List ℕ} {r : Cursor} (e : Counted (read bs₀) (upd (k .counts) w (new w)) next) (g : Further (ownsAt next u) c r) where
+        pub came-next : Came (read bs₀ .owns u) (suc w) r
+        came-next =
+            let s = further-same some (k .here some) (further-as (λ x l. counted-owns (read bs₀) _ next e u x u-small l) g) in
+            came w-small (subst (λ (x : ℕ). Stands (read bs₀ .owns u) (suc x) r) (sym place) s)
+
+        pub row-goes-on : RowCounted (read bs₀) new u next r
+        row-goes-on = walk-step (read bs₀) new u (W .quiet) bs c k w w-reached next r e came-next
 
 -- a row of counts put in at w
 row-at : (f : ℕ → ℕ → ℕ) (w : ℕ) (row : ℕ → ℕ) (j : ℕ) → upd f w row w j ≡ row j
@@ -155,19 +166,50 @@ row-kept f w row x j d = elim (eq? x w) [
 pub raised-quiet : (s : State) (i v : ℕ) → Quiet s (raisedCounts s i v) v
 raised-quiet s i v x j d = raised-no s i v x j (λ t. absurd (d t))
 
+-- the count that comes next, raised
+pub raised-is : (s : State) (i v : ℕ) (bs : List ℕ) (c : Cursor) (k : RowCounted s (raisedCounts s i v) v bs c) (w : ℕ) (y : ℕ)
+    → w ≡ reached c → w < 256 → i < 4 → T (s .owns v w) → y ≡ phiAt bs w i → y + 1 ≡ raisedCounts s i v w i
+raised-is s i v bs c k w y at l b t e =
+    omega (arith, e, counted-phi s (k .counts) bs (k .is) w i l b, k .left w i (omega arith), raised-yes s i v w i t refl)
+
 -- one count raised
-pub raised-turn : (s : State) (i v : ℕ) (bs : List ℕ) (w : ℕ) (k : RowCounted s (raisedCounts s i v) v bs w) (next : List ℕ) (y : ℕ)
-    → w < 256 → i < 4 → T (s .owns v w) → y ≡ phiAt bs w i → next ≡ setPhi bs w i (y + 1)
+pub raised-turn : (s : State) (i v : ℕ) (bs : List ℕ) (c : Cursor) (k : RowCounted s (raisedCounts s i v) v bs c) (w : ℕ) (next : List ℕ) (y : ℕ)
+    → w ≡ reached c → w < 256 → i < 4 → y + 1 ≡ raisedCounts s i v w i → next ≡ setPhi bs w i (y + 1)
     → Counted s (upd (k .counts) w (raisedCounts s i v w)) next
 unfolding withCounts
-raised-turn s i v bs w k next y l b t e f =
+raised-turn s i v bs c k w next y at l b e f =
     let new : ℕ → ℕ = raisedCounts s i v w in
-    let more : y + 1 ≡ suc (phi s w i) =
-    omega (arith, e, counted-phi s (k .counts) bs (k .is) w i l b, k .left w i (omega arith)) in
     f ∙ ap (λ (x : List ℕ). setPhi x w i (y + 1)) (k .is)
-    ∙ setCount-image (withCounts (fieldsOf s) (k .counts)) w i (y + 1) (upd (k .counts) w new) l b
-    (row-at (k .counts) w new i ∙ raised-yes s i v w i t refl ∙ sym more)
+    ∙ setCount-image (withCounts (fieldsOf s) (k .counts)) w i (y + 1) (upd (k .counts) w new) l b (row-at (k .counts) w new i ∙ sym e)
     (λ x j d. row-kept (k .counts) w new x j (λ p. raised-no s i v w j (λ _. d p) ∙ sym (k .left w j (omega arith))))
+
+-- the raised counts of the vertices below m to which v owns an edge are below the threshold
+abbrev pub LowTo : State → ℕ → ℕ → ℕ → Type 0
+LowTo s i v m = (w : ℕ) → w < m → T (s .owns v w) → raisedCounts s i v w i < base .thr i
+
+module _ (s : State) (i v : ℕ) where
+  pub low-start : {r : Cursor} → Came (s .owns v) 0 r → Says true (LowTo s i v (reached r))
+  low-start n = says-yes (λ w l t. absurd (n .none w (omega arith) l t))
+
+  -- a vertex more
+  module _ {b : Bool} {r : Cursor} (m w : ℕ) (at : w ≡ m) (S : Says b (LowTo s i v m)) (n : Came (s .owns v) (suc w) r) where
+    pub low-yes : raisedCounts s i v w i < base .thr i → Says b (LowTo s i v (reached r))
+    low-yes h =
+        says-by
+        (λ low x l t. elim (eq? x w) [
+          | inl e ↦ subst (λ (y : ℕ). raisedCounts s i v y i < base .thr i) (sym e) h
+          | inr d ↦ elim (le? x w) [ inl p ↦ low x (omega arith) t | inr p ↦ absurd (n .none x p l t) ]
+        ])
+        (λ low x l t. low x (omega (arith, n .after)) t) S
+
+    pub low-no : T (s .owns v w) → base .thr i ≤ raisedCounts s i v w i → Says false (LowTo s i v (reached r))
+    low-no t h = says-no (λ low. omega (arith, low w (n .after) t))
+
+  -- the row is walked
+  pub low-end : Proper s → (c : Cursor) {b : Bool} → c .rest ≡ 0 → Says b (LowTo s i v (reached c))
+      → Says b ((w : ℕ) → T (s .owns v w) → raisedCounts s i v w i < base .thr i)
+  low-end p c z S =
+      says-by (λ low w t. low w (omega (arith, reached-end c z, p .few, p .inside v w t .1)) t) (λ low w l t. low w t) S
 
 -- ---- counts that are lowered from the higher of two ranks up to i
 
@@ -180,11 +222,11 @@ pub lowered-quiet : (s : State) (i u : ℕ) → Quiet s (loweredCounts s i u) u
 lowered-quiet s i u x j d = lowered-no s i u x j (λ t. d (hit-says s i u x j t .owned))
 
 -- the counts of one vertex lowered
-pub lowered-turn : (s : State) (i u : ℕ) (bs : List ℕ) (w : ℕ) (k : RowCounted s (loweredCounts s i u) u bs w) (next : List ℕ)
-    → w < 256 → i < 4 → T (s .owns u w) → (j : ℕ) → s .rank u ≤ j → s .rank w ≤ j → ((x : ℕ) → s .rank u ≤ x → s .rank w ≤ x → j ≤ x)
+pub lowered-turn : (s : State) (i u : ℕ) (bs : List ℕ) (c : Cursor) (k : RowCounted s (loweredCounts s i u) u bs c) (w : ℕ) (next : List ℕ)
+    → w ≡ reached c → w < 256 → i < 4 → T (s .owns u w) → (j : ℕ) → s .rank u ≤ j → s .rank w ≤ j → ((x : ℕ) → s .rank u ≤ x → s .rank w ≤ x → j ≤ x)
     → j ≤ i → next ≡ recounted (step false) bs w j (i + 1 - j) → Counted s (upd (k .counts) w (loweredCounts s i u w)) next
 unfolding withCounts
-lowered-turn s i u bs w k next l b t j h₁ h₂ least h₃ f =
+lowered-turn s i u bs c k w next at l b t j h₁ h₂ least h₃ f =
     let new : ℕ → ℕ = loweredCounts s i u w in
     let old : (x : ℕ) → k .counts w x ≡ phi s w x = λ x. k .left w x (omega arith) in
     f ∙ ap (λ (x : List ℕ). recounted (step false) x w j (i + 1 - j)) (k .is)

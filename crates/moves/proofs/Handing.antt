@@ -1,111 +1,175 @@
--- The walk of a hand-over: v's edges to vertices of its own level go to them, the first w places of its row done. Assumes nothing.
-use mathlib.Core.Path.{_≡_, refl, sym, ap, _∙_, subst}
-use mathlib.Core.Logic.{_≢_}
-use mathlib.Core.Bool.{Bool, false, _&&_}
-use mathlib.Core.List.{List}
-use Prim.Native.Nat.{ℕ, suc, _≤_, _<_}
-use native.Mathlib.Omega.{arith}
-use lib.Dec.{T, eqb, eqb→eq}
-use lib.ListN.{length}
+-- The pass over a word of v's row: the vertices of v's own level come to own their edges to v, the others are gathered, and at the end of
+-- the word v's row keeps those alone. Assumes nothing.
+use mathlib.Core.Path.{_≡_, refl, sym, ap, _∙_, subst, fun-ext}
+use mathlib.Core.Logic.{_≢_, inl, inr}
+use mathlib.Core.Bool.{Bool, true, false, _&&_, _||_}
+use Prim.Native.Nat.{ℕ, suc, _+_, _*_, _^_, _≤_, _<_}
+use lib.Dec.{T, eqb, leb, eqb→eq, leb→le, le→leb, lt→ltb, ltb→lt, not-T, T-not}
+use Rattle.model.specs.Counting.{upd}
 use Rattle.model.specs.State.{State}
-use Rattle.model.specs.Bytes.{rankAt, ownsAt, image, write}
-use Rattle.model.specs.Moves.{ownedBy, handOver}
-use Rattle.model.specs.Change.{reown}
-use Rattle.model.proofs.Tests.{true-T, eqb-yes, and-intro, and-left, and-right}
-use Rattle.model.proofs.Fields.{image-length, rank-image, owns-image}
-use Rattle.theory.proofs.HandLoops.{upTo, owned-zero, owned-no, owned-yes, owned-all}
-use Rattle.layout.specs.Setters.{Sized, own, disown}
-use Rattle.layout.specs.Rows.{NextOwned}
+use Rattle.model.specs.Bytes.{bitOf, image}
+use Rattle.model.specs.Moves.{ownedBy}
+use Rattle.model.proofs.Tests.{eq?, holds?, bool-ext, true-T, T-true, T-false, eqb-yes, and-intro, and-left, and-right, or-cases, or-left, or-right}
+use Rattle.model.proofs.Lists.{upd-same, upd-other}
+use Rattle.theory.proofs.Ownership.{out, back, rest, turned}
+use Rattle.layout.specs.Setters.{own, setWord}
+use Rattle.layout.proofs.Images.{withOwns, withWord, word-in, word-out, image-ext, own-image, setWord-image}
 use Rattle.moves.specs.Proper.{Proper}
-use Rattle.moves.proofs.Keeps.{hand-edge}
-use Rattle.moves.proofs.Owning.{ownersOf, owners-same, owners-write, pass-out, owned-skip, row-from}
+use Rattle.moves.specs.Handing.{handed, kept, inWord}
+use Rattle.moves.proofs.Owning.{ownersOf}
 
--- the edges that v hands over
-unfoldable pub handed : State → ℕ → ℕ → ℕ → Bool
-handed s i v w = s .owns v w && eqb (s .rank w) (suc i)
+-- ---- which edges go, and which stay
 
--- the owners once the places below k are done
-unfoldable pub handedTo : State → ℕ → ℕ → ℕ → ℕ → ℕ → Bool
-handedTo s i v k = ownedBy v (upTo (handed s i v) k) false (s .owns)
-
--- the bytes at that point
-pub record Given (s : State) (i v : ℕ) (bs : List ℕ) (k : ℕ) : Type 0 where
-  pub bytes : bs ≡ image (ownersOf s (handedTo s i v k))
-
--- and w is the next place of the row
-pub record Handing (s : State) (i v : ℕ) (bs : List ℕ) (w : ℕ) : Type 0 where
-  pub given : Given s i v bs w
-  pub within : w ≤ 256
-  pub is : w < s .n → T (s .owns v w)
-
-module _ {s : State} {i v k : ℕ} {bs : List ℕ} (g : Given s i v bs k) where
-  pub given-sized : Sized bs
-  given-sized = ap length (g .bytes) ∙ image-length (ownersOf s (handedTo s i v k))
-
-  pub given-rank : (w : ℕ) → w < 256 → rankAt bs w ≡ s .rank w
-  unfolding ownersOf
-  given-rank w h = ap (λ (b : List ℕ). rankAt b w) (g .bytes) ∙ rank-image (ownersOf s (handedTo s i v k)) w h
-
-  -- the same bytes, done up to m where that leaves the same owners
-  moved : {cs : List ℕ} (m : ℕ) → cs ≡ bs → handedTo s i v k ≡ handedTo s i v m → Given s i v cs m
-  moved m e f = record { bytes = e ∙ g .bytes ∙ ap (λ (o : ℕ → ℕ → Bool). image (ownersOf s o)) f }
-
-module _ {s : State} (p : Proper s) {v : ℕ} (l : v < s .n) where
-  small : (w : ℕ) → w < s .n → w < 256
-  small w k = omega (arith, p .few)
-
-  own-not : (i : ℕ) → T (handed s i v v) → ⊥
+module _ (s : State) (i v : ℕ) where
+  pub handed-of : (w : ℕ) → T (s .owns v w) → s .rank w ≡ suc i → T (handed s i v w)
   unfolding handed
-  own-not i t = p .no-loop v (and-left (s .owns v v) _ t)
+  handed-of w o e = and-intro (s .owns v w) _ o (true-T (eqb-yes (s .rank w) (suc i) e))
 
-  pub given-start : (i : ℕ) {bs : List ℕ} → bs ≡ write s → Given s i v bs 0
-  unfolding handedTo
-  given-start i e = record {
-    bytes = e ∙ owners-same s
-        ∙ ap (λ (o : ℕ → ℕ → Bool). image (ownersOf s o)) (sym (owned-zero v (handed s i v) false (s .owns) (own-not i)));
-  }
+  pub handed-is : (w : ℕ) → T (handed s i v w) → T (s .owns v w) × (s .rank w ≡ suc i)
+  unfolding handed
+  handed-is w t = (and-left (s .owns v w) _ t, eqb→eq (s .rank w) (suc i) (and-right (s .owns v w) _ t))
 
-  module _ {i k : ℕ} {bs : List ℕ} (g : Given s i v bs k) where
-    -- from k on the row is that of s
-    row : (x : ℕ) → k ≤ x → x < 256 → ownsAt bs v x ≡ s .owns v x
-    unfolding ownersOf handedTo
-    row x c h =
-        ap (λ (b : List ℕ). ownsAt b v x) (g .bytes) ∙ owns-image (ownersOf s (handedTo s i v k)) v x (small v l) h
-        ∙ row-from v (handed s i v) false (s .owns) (own-not i) k x c
+  pub kept-of : (w : ℕ) → T (s .owns v w) → s .rank w ≢ suc i → T (kept s i v w)
+  unfolding kept
+  kept-of w o d = and-intro (s .owns v w) _ o (not-T (eqb (s .rank w) (suc i)) (λ t. d (eqb→eq (s .rank w) (suc i) t)))
 
-    -- the next place of the row
-    pub given-next : {r : ℕ} → NextOwned bs v k r → Handing s i v bs r
-    unfolding handedTo handed
-    given-next {r} h = record {
-      given = moved g r refl (owned-skip v (handed s i v) false (s .owns) (own-not i) k r (h .after)
-          (λ x a b t. h .none x a b (subst T (sym (row x a (omega (arith, h .within)))) (and-left (s .owns v x) _ t))));
-      within = h .within;
-      is = λ c. subst T (row r (h .after) (small r c)) (h .is (small r c));
-    }
+  pub kept-is : (w : ℕ) → T (kept s i v w) → T (s .owns v w) × (s .rank w ≢ suc i)
+  unfolding kept
+  kept-is w t =
+      (and-left (s .owns v w) _ t, λ e. T-not (eqb (s .rank w) (suc i)) (and-right (s .owns v w) _ t) (true-T (eqb-yes (s .rank w) (suc i) e)))
 
-    module _ {cs : List ℕ} where
-      -- an edge to a vertex of another level stays
-      pub given-no : cs ≡ bs → s .rank k ≢ suc i → Given s i v cs (suc k)
-      unfolding handedTo handed
-      given-no q d =
-          moved g (suc k) q
-          (sym (owned-no v (handed s i v) false (s .owns) (own-not i) k
-          (λ t. d (eqb→eq (s .rank k) (suc i) (and-right (s .owns v k) _ t)))))
+pub word-of : (k m w : ℕ) → 64 * k ≤ w → w < 64 * k + m → T (inWord k m w)
+unfolding inWord
+word-of k m w a b = and-intro (leb (64 * k) w) _ (le→leb (64 * k) w a) (lt→ltb w (64 * k + m) b)
 
-      -- and one to a vertex of the same level passes
-      pub given-yes : cs ≡ own (disown bs v k) k v → k < s .n → T (s .owns v k) → s .rank k ≡ suc i → Given s i v cs (suc k)
-      unfolding handedTo handed
-      given-yes q c o e = record {
-        bytes = q ∙ ap (λ (b : List ℕ). own (disown b v k) k v) (g .bytes)
-            ∙ pass-out s (handedTo s i v k) v k (small v l) (small k c) (λ q. p .no-loop v (subst (λ (x : ℕ). T (s .owns v x)) (sym q) o))
-            ∙ ap (λ (o : ℕ → ℕ → Bool). image (ownersOf s o))
-            (sym (owned-yes v (handed s i v) false (s .owns) (own-not i) k
-            (and-intro (s .owns v k) _ o (true-T (eqb-yes (s .rank k) (suc i) e)))));
-      }
+pub word-is : (k m w : ℕ) → T (inWord k m w) → (64 * k ≤ w) × (w < 64 * k + m)
+unfolding inWord
+word-is k m w t = (leb→le (64 * k) w (and-left (leb (64 * k) w) _ t), ltb→lt w (64 * k + m) (and-right (leb (64 * k) w) _ t))
 
-    pub given-end : s .n ≤ k → bs ≡ write (handOver i v s)
-    unfolding handedTo handed handOver reown
-    given-end c =
-        g .bytes ∙ ap (λ (o : ℕ → ℕ → Bool). image (ownersOf s o))
-        (owned-all v (handed s i v) false (s .owns) (own-not i) k (λ x t. omega (arith, p .inside v x (and-left (s .owns v x) _ t) .1)))
-        ∙ owners-write s (ownedBy v (handed s i v) false (s .owns)) (λ x y. hand-edge s p i v x y)
+-- the edges that go, as far as place m of word k
+unfoldable pub going : State → ℕ → ℕ → ℕ → ℕ → ℕ → Bool
+going s i v k m w = handed s i v w && inWord k m w
+
+module _ (s : State) (i v k m w : ℕ) where
+  pub going-of : T (handed s i v w) → 64 * k ≤ w → w < 64 * k + m → T (going s i v k m w)
+  unfolding going
+  going-of h a b = and-intro (handed s i v w) _ h (word-of k m w a b)
+
+  pub going-is : T (going s i v k m w) → T (handed s i v w) × (64 * k ≤ w) × (w < 64 * k + m)
+  unfolding going
+  going-is t = let g = word-is k m w (and-right (handed s i v w) _ t) in (and-left (handed s i v w) _ t, g .0, g .1)
+
+-- ---- on the way: those who pass q own their edges to v too
+
+unfoldable pub gains : ℕ → (ℕ → Bool) → (ℕ → ℕ → Bool) → ℕ → ℕ → Bool
+gains v q owns x y = owns x y || (eqb y v && q x)
+
+module _ (v : ℕ) (q : ℕ → Bool) (owns : ℕ → ℕ → Bool) (x y : ℕ) where
+  gains-of : y ≡ v → T (q x) → T (gains v q owns x y)
+  unfolding gains
+  gains-of e t = or-right (owns x y) _ (and-intro (eqb y v) _ (true-T (eqb-yes y v e)) t)
+
+  gains-old : T (owns x y) → T (gains v q owns x y)
+  unfolding gains
+  gains-old t = or-left (owns x y) _ t
+
+  gains-else : (y ≡ v → T (q x) → ⊥) → T (gains v q owns x y) → T (owns x y)
+  unfolding gains
+  gains-else f t = elim (or-cases (owns x y) _ t) [
+    | inl o ↦ o
+    | inr g ↦ absurd (f (eqb→eq y v (and-left (eqb y v) _ g)) (and-right (eqb y v) _ g))
+  ]
+
+  gains-same : (y ≡ v → T (q x) → ⊥) → gains v q owns x y ≡ owns x y
+  gains-same f = bool-ext (gains v q owns x y) (owns x y) (gains-else f) gains-old
+
+-- the same, where the same pass
+pub gains-ext : (v : ℕ) (p q : ℕ → Bool) (owns : ℕ → ℕ → Bool) → ((x : ℕ) → T (p x) → T (q x)) → ((x : ℕ) → T (q x) → T (p x))
+    → gains v p owns ≡ gains v q owns
+gains-ext v p q owns f g = ap (λ (r : ℕ → Bool). gains v r owns) (fun-ext (λ x. bool-ext (p x) (q x) (f x) (g x)))
+
+-- nobody passes
+pub gains-none : (v : ℕ) (q : ℕ → Bool) (owns : ℕ → ℕ → Bool) → ((x : ℕ) → T (q x) → ⊥) → gains v q owns ≡ owns
+gains-none v q owns f = fun-ext (λ x. fun-ext (λ y. gains-same v q owns x y (λ _ t. f x t)))
+
+-- w passes besides
+gains-more : (v w : ℕ) (p q : ℕ → Bool) (owns : ℕ → ℕ → Bool) → T (q w) → ((x : ℕ) → T (p x) → T (q x)) → ((x : ℕ) → T (q x) → x ≢ w → T (p x))
+    → upd (gains v p owns) w (upd (gains v p owns w) v true) ≡ gains v q owns
+gains-more v w p q owns here f g = fun-ext (λ x. fun-ext (λ y. elim (eq? x w) [
+  | inl e ↦ ap (λ (r : ℕ → Bool). r y) (upd-same (gains v p owns) w _ x e) ∙ elim (eq? y v) [
+    | inl d ↦ upd-same (gains v p owns w) v true y d ∙ sym (T-true (gains-of v q owns x y d (subst (λ (z : ℕ). T (q z)) (sym e) here)))
+    | inr d ↦ upd-other (gains v p owns w) v true y d ∙ ap (λ (z : ℕ). gains v p owns z y) (sym e)
+        ∙ gains-same v p owns x y (λ a _. d a) ∙ sym (gains-same v q owns x y (λ a _. d a))
+  ]
+  | inr e ↦ ap (λ (r : ℕ → Bool). r y) (upd-other (gains v p owns) w _ x e)
+      ∙ bool-ext (gains v p owns x y) (gains v q owns x y) (to x y e) (from x y e)
+]))
+  where
+    to : (x y : ℕ) → x ≢ w → T (gains v p owns x y) → T (gains v q owns x y)
+    to x y e t = elim (holds? (eqb y v && p x)) [
+      | inl a ↦ gains-of v q owns x y (eqb→eq y v (and-left (eqb y v) _ a)) (f x (and-right (eqb y v) _ a))
+      | inr a ↦ gains-old v q owns x y (gains-else v p owns x y (λ b c. a (and-intro (eqb y v) _ (true-T (eqb-yes y v b)) c)) t)
+    ]
+
+    from : (x y : ℕ) → x ≢ w → T (gains v q owns x y) → T (gains v p owns x y)
+    from x y e t = elim (holds? (eqb y v && q x)) [
+      | inl a ↦ gains-of v p owns x y (eqb→eq y v (and-left (eqb y v) _ a)) (g x (and-right (eqb y v) _ a) e)
+      | inr a ↦ gains-old v p owns x y (gains-else v q owns x y (λ b c. a (and-intro (eqb y v) _ (true-T (eqb-yes y v b)) c)) t)
+    ]
+
+pub own-gains : (s : State) (v w : ℕ) (p q : ℕ → Bool) → v < 256 → w < 256 → T (q w) → ((x : ℕ) → T (p x) → T (q x))
+    → ((x : ℕ) → T (q x) → x ≢ w → T (p x))
+    → own (image (ownersOf s (gains v p (s .owns)))) w v ≡ image (ownersOf s (gains v q (s .owns)))
+unfolding ownersOf withOwns
+own-gains s v w p q l k here f g =
+    own-image (ownersOf s (gains v p (s .owns))) w v k l
+    ∙ ap (λ (o : ℕ → ℕ → Bool). image (ownersOf s o)) (gains-more v w p q (s .owns) here f g)
+
+-- ---- the end of the word: v's row keeps what was gathered
+
+module _ (s : State) (p : Proper s) (i v k : ℕ) where
+  abbrev gone : ℕ → Bool
+  gone = going s i v k 64
+
+  -- an edge of the word: it is gone, or it is kept
+  gone-in : (x y : ℕ) → x ≡ v → 64 * k ≤ y → y < 64 * k + 64 → kept s i v y ≡ ownedBy v gone false (s .owns) x y
+  gone-in x y e a b = elim (turned v gone false (s .owns) x y) [
+    | out _ g f ↦ T-false (λ t. kept-is s i v y t .1 (handed-is s i v y (going-is s i v k 64 y g .0) .1)) ∙ sym f
+    | back _ g f ↦ absurd (p .no-loop v (handed-is s i v v (subst (λ (z : ℕ). T (handed s i v z)) e (going-is s i v k 64 x g .0)) .0))
+    | rest g _ f ↦ bool-ext (kept s i v y) (s .owns v y) (λ t. kept-is s i v y t .0)
+        (λ o. kept-of s i v y o (λ r. g e (going-of s i v k 64 y (handed-of s i v y o r) a b))) ∙ ap (λ (z : ℕ). s .owns z y) (sym e) ∙ sym f
+  ]
+
+  -- any other edge
+  gone-out : (x y : ℕ) → (x ≡ v → 64 * k ≤ y → y < 64 * k + 64 → ⊥) → gains v gone (s .owns) x y ≡ ownedBy v gone false (s .owns) x y
+  gone-out x y d = elim (turned v gone false (s .owns) x y) [
+    | out e g f ↦ let r = going-is s i v k 64 y g in absurd (d e (r .1) (r .2))
+    | back e g f ↦ T-true (gains-of v gone (s .owns) x y e g) ∙ sym f
+    | rest _ g f ↦ gains-same v gone (s .owns) x y g ∙ sym f
+  ]
+
+  gone-owns : (x y : ℕ) → withWord (ownersOf s (gains v gone (s .owns))) v k (kept s i v) .owns x y ≡ ownedBy v gone false (s .owns) x y
+  unfolding ownersOf
+  gone-owns x y = elim (holds? (eqb x v && inWord k 64 y)) [
+    | inl a ↦
+        let e : x ≡ v = eqb→eq x v (and-left (eqb x v) _ a) in
+        let r = word-is k 64 y (and-right (eqb x v) _ a) in
+        word-in (ownersOf s (gains v gone (s .owns))) v k (kept s i v) x y e (r .0) (r .1) ∙ gone-in x y e (r .0) (r .1)
+    | inr a ↦
+        let d : x ≡ v → 64 * k ≤ y → y < 64 * k + 64 → ⊥ = λ e b c. a (and-intro (eqb x v) _ (true-T (eqb-yes x v e)) (word-of k 64 y b c)) in
+        word-out (ownersOf s (gains v gone (s .owns))) v k (kept s i v) x y d ∙ gone-out x y d
+  ]
+
+  pub word-gone : (x : ℕ) → v < 256 → 64 * k < 256 → x < 2 ^ 64 → ((j : ℕ) → j < 64 → bitOf x j ≡ kept s i v (64 * k + j))
+      → setWord (image (ownersOf s (gains v gone (s .owns)))) v k x ≡ image (ownersOf s (ownedBy v gone false (s .owns)))
+  unfolding ownersOf withWord
+  word-gone x l m fits same =
+      setWord-image (ownersOf s (gains v gone (s .owns))) v k x (kept s i v) l m fits same
+      ∙ image-ext (withWord (ownersOf s (gains v gone (s .owns))) v k (kept s i v)) (ownersOf s (ownedBy v gone false (s .owns))) (record {
+        n = refl;
+        edges = refl;
+        rank = λ _ _. refl;
+        mate = λ _ _. refl;
+        phi = λ _ _ _ _. refl;
+        owns = λ a b _ _. gone-owns a b;
+      })

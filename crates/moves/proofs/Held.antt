@@ -2,7 +2,7 @@
 use mathlib.Core.Path.{_≡_, sym, ap, _∙_, subst}
 use mathlib.Core.Logic.{inl, inr}
 use mathlib.Core.List.{List}
-use Prim.Native.Nat.{ℕ, _≤_, _<_}
+use Prim.Native.Nat.{ℕ, _<_}
 use native.Mathlib.Omega.{arith}
 use lib.Dec.{T, ltb, ltb→lt}
 use lib.ListN.{length}
@@ -16,7 +16,7 @@ use Rattle.model.proofs.Fields.{write-length, size-write, edges-write, rank-wri
 use Rattle.model.proofs.Limits.{mateEntry-free, mateEntry-mate, mate-past, mate-inside}
 use Rattle.model.proofs.Reading.{named-free, named-mate, read-size, read-rank, read-rank-past, read-mate, read-mate-past, read-owns, read-owned}
 use Rattle.layout.specs.Setters.{Sized}
-use Rattle.layout.specs.Rows.{degreeAt, NthOwned, NextOwned}
+use Rattle.layout.specs.Rows.{degreeAt, NthOwned}
 use Rattle.moves.specs.Proper.{Proper, Ordered, Held}
 
 module _ (s : State) (p : Proper s) where
@@ -116,20 +116,7 @@ module _ {bs : List ℕ} (h : Held bs) where
   pub held-small : (v : ℕ) → v < read bs .n → v < 256
   held-small v l = omega (arith, h .proper .few)
 
--- a walk along a row of a proper state, whatever else the bytes hold: bs need only have s's owners
-pub record NextIn (s : State) (v from r : ℕ) : Type 0 where
-  pub after : from ≤ r
-  pub none : (w : ℕ) → from ≤ w → w < r → T (s .owns v w) → ⊥
-  pub is : r < s .n → T (s .owns v r)
-
-pub next-in : (s : State) → Proper s → (bs : List ℕ) → ((v w : ℕ) → v < 256 → w < 256 → ownsAt bs v w ≡ s .owns v w)
-    → (v from r : ℕ) → v < 256 → NextOwned bs v from r → NextIn s v from r
-next-in s p bs f v from r l n = record {
-  after = n .after;
-  none = λ w a b t. n .none w a b (subst T (sym (f v w l (omega (arith, n .within)))) t);
-  is = λ h. let i : r < 256 = omega (arith, p .few) in subst T (f v r l i) (n .is i);
-}
-
+-- a place of a row of a proper state, whatever else the bytes hold: bs need only have s's owners
 pub nth-in : (s : State) → Proper s → (bs : List ℕ) → ((v w : ℕ) → v < 256 → w < 256 → ownsAt bs v w ≡ s .owns v w)
     → (v k r : ℕ) → v < 256 → NthOwned bs v k r → (r < s .n) × (T (s .owns v r)) × (count (s .owns v) r ≡ k)
 nth-in s p bs f v k r l n =

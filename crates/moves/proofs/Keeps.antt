@@ -4,18 +4,19 @@ use mathlib.Core.Logic.{inl, inr}
 use mathlib.Core.Bool.{Bool, true, false, _&&_}
 use Prim.Native.Nat.{ℕ, suc, _≤_, _<_}
 use native.Mathlib.Omega.{arith}
-use lib.Dec.{T, leb, eqb, eqb→eq}
+use lib.Dec.{T, leb, eqb}
 use Rattle.model.specs.Counting.{upd}
 use Rattle.model.specs.State.{base, State, edge, near}
 use Rattle.model.specs.Moves.{part, rise, marry, handOver}
 use Rattle.model.specs.Change.{reown}
-use Rattle.model.proofs.Tests.{eq?, bool-ext, T-true, true-T, eqb-yes, and-intro, and-left, and-right}
+use Rattle.model.proofs.Tests.{eq?, bool-ext, T-true, and-left}
 use Rattle.model.proofs.Lists.{upd-same, upd-other}
 use Rattle.theory.proofs.Marks.{marks, setting, nearIn}
 use Rattle.theory.proofs.Ownership.{out, back, rest, turned, rise-owns, hand-owns, fall-owns}
 use Rattle.theory.proofs.Fits.{lift-is}
+use Rattle.theory.proofs.Handing.{handed-row}
 use Rattle.moves.specs.Proper.{Proper, Ordered, tookOver, ranked, RowBelow}
-use Rattle.moves.proofs.Edges.{edge-cases, edge-of, near-of, near-edge, near-low, edge-loop, simple, owners, turned-edge, turned-proper}
+use Rattle.moves.proofs.Edges.{edge-of, near-of, near-edge, near-low, edge-loop, simple, owners, turned-edge, turned-proper}
 
 -- a function changed at a number below n: from n on it is as it was, and its values stay below a bound
 upd-past : (f : ℕ → ℕ) (k x n v : ℕ) → k < n → n ≤ v → upd f k x v ≡ f v
@@ -101,21 +102,7 @@ module _ (s : State) (p : Proper s) where
 
   -- and so does a vertex at level i that has handed its edges of that level on
   pub hand-row : (i v : ℕ) → Ordered s → s .rank v ≡ suc i → RowBelow i v (handOver i v s)
-  unfolding handOver near
-  hand-row i v o e w =
-      let same : near (handOver i v s) v i w ≡ near s v i w = ap (λ (b : Bool). b && leb (s .rank w) i) (hand-edge i v v w) in
-      elim (turned v (λ y. s .owns v y && eqb (s .rank y) (suc i)) false (s .owns) v w) [
-        | out f t q ↦ q ∙ bool-ext false (near s v i w) (λ x. absurd x)
-            (λ h. absurd (omega (arith, near-low s v i w h, eqb→eq (s .rank w) (suc i) (and-right (s .owns v w) _ t)))) ∙ sym same
-        | back f t q ↦ absurd (p .no-loop v (and-left (s .owns v v) _ t))
-        | rest f t q ↦ q ∙ bool-ext (s .owns v w) (near s v i w)
-            (λ h. near-of s v i w (edge-of s v w h) (elim (eq? (s .rank w) (suc i)) [
-              | inl g ↦ absurd (f refl (and-intro (s .owns v w) _ h (true-T (eqb-yes (s .rank w) (suc i) g))))
-              | inr g ↦ omega (arith, o v w h)
-            ]))
-            (λ h. elim (edge-cases s v w (near-edge s v i w h)) [ inl k ↦ k | inr k ↦ absurd (omega (arith, o w v k, near-low s v i w h)) ])
-            ∙ sym same
-      ]
+  hand-row i v o e = handed-row (setting base s) (simple s p) i v s (record { size = refl; owners = owners s p o }) e
 
   -- where a vertex goes to another rank, its own neighbours are as they were
   pub ranked-near : (v x j w : ℕ) → near (ranked v x s) v j w ≡ near s v j w

@@ -10,4 +10,6 @@ pub mod RankSteps
 pub mod Pairs
 pub mod Owning
 pub mod Handing
+pub mod HandWord
+pub mod HandWords
 pub mod Taking

@@ -5,16 +5,16 @@ use mathlib.Core.Logic.{_≢_, inl, inr}
 use mathlib.Core.Bool.{Bool, true, false}
 use Prim.Native.Nat.{ℕ, _≤_, _<_}
 use native.Mathlib.Omega.{arith}
-use lib.Dec.{T, eqb, eqb→eq, lt→ltb, ltb→lt}
+use lib.Dec.{T, eqb, eqb→eq}
 use Rattle.model.specs.Counting.{upd}
 use Rattle.model.specs.State.{State, edge, phi, edges}
 use Rattle.model.specs.Bytes.{Fields, image, mateEntry, fieldsOf, write}
 use Rattle.model.specs.Moves.{ownedBy}
 use Rattle.model.specs.Change.{reown}
-use Rattle.model.proofs.Tests.{eq?, le?, true-T, eqb-yes, bool-ext, and-intro, and-left, and-right}
+use Rattle.model.proofs.Tests.{eq?, le?, true-T, eqb-yes, bool-ext}
 use Rattle.model.proofs.Lists.{upd-same, upd-other}
 use Rattle.theory.proofs.Ownership.{out, back, rest, turned}
-use Rattle.theory.proofs.HandLoops.{upTo, ownedOne}
+use Rattle.theory.proofs.HandLoops.{upTo, upTo-of, upTo-is, ownedOne}
 use Rattle.layout.specs.Setters.{own, disown}
 use Rattle.layout.proofs.Images.{withOwns, image-ext, own-image, disown-image}
 use Rattle.moves.proofs.Recount.{same-phi, same-edges}
@@ -85,52 +85,34 @@ module _ (o : ℕ → ℕ → Bool) (u k : ℕ) (d : u ≢ k) where
         (λ e h. f e (true-T (eqb-yes y k h))) (λ e h. g h (true-T (eqb-yes x k e))))
   ]))
 
-  -- the edge u-k goes to k
-  one-out : ownedOne u k false o ≡ passed u k o
-  unfolding ownedOne
-  one-out = fun-ext (λ x. fun-ext (λ y. elim (turned u (λ w. eqb w k) false o x y) [
-    | out e h q ↦ q ∙ sym (passed-from u k o d x y e (eqb→eq y k h))
-    | back e h q ↦ q ∙ sym (passed-to u k o d x y (eqb→eq x k h) e)
-    | rest f g q ↦ q ∙ sym (passed-rest u k o d x y
-        (λ e h. g h (true-T (eqb-yes x k e))) (λ e h. f e (true-T (eqb-yes y k h))))
-  ]))
-
 module _ (s : State) (o : ℕ → ℕ → Bool) (u k : ℕ) (l : u < 256) (m : k < 256) (d : u ≢ k) where
   pub pass-in : own (disown (image (ownersOf s o)) k u) u k ≡ image (ownersOf s (ownedOne u k true o))
   pass-in = pass-image s o k u m l ∙ ap (λ (q : ℕ → ℕ → Bool). image (ownersOf s q)) (sym (one-in o u k d))
 
-  pub pass-out : own (disown (image (ownersOf s o)) u k) k u ≡ image (ownersOf s (ownedOne u k false o))
-  pass-out = pass-image s o u k l m ∙ ap (λ (q : ℕ → ℕ → Bool). image (ownersOf s q)) (sym (one-out o u k d))
-
 -- ---- owners along a walk: what is below k is done
 
 module _ (u : ℕ) (p : ℕ → Bool) (d : Bool) (owns : ℕ → ℕ → Bool) (pu : T (p u) → ⊥) where
-  within : (k w : ℕ) → T (upTo p k w) → T (p w) × (w < k)
-  unfolding upTo
-  within k w h = (and-left (p w) _ h, ltb→lt w k (and-right (p w) _ h))
-
   -- numbers that do not pass are passed over
   pub owned-skip : (a b : ℕ) → a ≤ b → ((x : ℕ) → a ≤ x → x < b → T (p x) → ⊥)
       → ownedBy u (upTo p a) d owns ≡ ownedBy u (upTo p b) d owns
-  unfolding upTo
   owned-skip a b l f = ap (λ (q : ℕ → Bool). ownedBy u q d owns) (fun-ext (λ w. bool-ext (upTo p a w) (upTo p b w)
-      (λ t. let h = within a w t in and-intro (p w) _ (h .0) (lt→ltb w b (omega arith)))
-      (λ t. let h = within b w t in and-intro (p w) _ (h .0) (lt→ltb w a (elim (le? a w) [
+      (λ t. let h = upTo-is p a w t in upTo-of p b w (h .0) (omega (arith, h .1)))
+      (λ t. let h = upTo-is p b w t in upTo-of p a w (h .0) (elim (le? a w) [
         | inl c ↦ absurd (f w c (h .1) (h .0))
         | inr c ↦ c
-      ])))))
+      ]))))
 
   -- from k on, u's row and u's column are as they were
   pub row-from : (k x : ℕ) → k ≤ x → ownedBy u (upTo p k) d owns u x ≡ owns u x
   row-from k x l = elim (turned u (upTo p k) d owns u x) [
-    | out e t q ↦ absurd (omega (arith, within k x t .1))
-    | back e t q ↦ absurd (pu (within k u t .0))
+    | out e t q ↦ absurd (omega (arith, upTo-is p k x t .1))
+    | back e t q ↦ absurd (pu (upTo-is p k u t .0))
     | rest f g q ↦ q
   ]
 
   pub column-from : (k x : ℕ) → k ≤ x → ownedBy u (upTo p k) d owns x u ≡ owns x u
   column-from k x l = elim (turned u (upTo p k) d owns x u) [
-    | out e t q ↦ absurd (pu (within k u t .0))
-    | back e t q ↦ absurd (omega (arith, within k x t .1))
+    | out e t q ↦ absurd (pu (upTo-is p k u t .0))
+    | back e t q ↦ absurd (omega (arith, upTo-is p k x t .1))
     | rest f g q ↦ q
   ]

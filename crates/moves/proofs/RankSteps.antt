@@ -1,18 +1,21 @@
 -- The steps of entering a level and of a fall lead to the writing of the state with the new rank. Assumes nothing.
 use mathlib.Core.Path.{_≡_, ap, _∙_}
+use mathlib.Core.Bool.{Bool}
 use mathlib.Core.List.{List}
 use Prim.Native.Nat.{ℕ, suc, _+_, _≤_, _<_}
 use native.Mathlib.Numerals.{add-one}
 use native.Mathlib.Omega.{arith}
-use Rattle.model.specs.Counting.{count}
-use Rattle.model.specs.State.{base, State, edge, phi, edges}
+use lib.Dec.{T}
+use Rattle.model.specs.State.{base, State, edge, below, phi, edges}
 use Rattle.model.specs.Bytes.{image, mateEntry, fieldsOf, write}
+use Rattle.model.proofs.Facts.{Says}
 use Rattle.layout.specs.Setters.{setRank, setPhi}
 use Rattle.layout.proofs.Images.{withRank, setRank-image}
+use Rattle.layout.proofs.Said.{says-by}
 use Rattle.moves.specs.Proper.{Proper, ranked, RowBelow}
 use Rattle.moves.specs.Counts.{withCounts, recounted, none, loweredCounts, raisedCounts}
 use Rattle.moves.proofs.Keeps.{ranked-proper}
-use Rattle.moves.proofs.Recount.{phi-fits, enter-own, enter-phi, fall-own, fall-phi}
+use Rattle.moves.proofs.Recount.{phi-fits, enter-own, enter-phi, fall-own, fall-phi, fall-owned}
 use Rattle.moves.proofs.CountSteps.{setCount-image, recounted-image}
 
 -- a new rank, where the counts are those of the new rank already
@@ -36,17 +39,23 @@ module _ (s : State) (p : Proper s) (i v : ℕ) (l : v < s .n) (top : i ≤ base
       ap (λ (bs : List ℕ). setRank bs v (i + 1)) (enter-counts r) ∙ rw add-one (ranked-image s v (suc i) (omega (arith, p .few)))
 
   module _ (r : s .rank v ≡ suc i) where
-    -- the count of v at i is the number of edges that it owns
-    fall-counts : setPhi (image (withCounts (fieldsOf s) (raisedCounts s i v))) v i (count (s .owns v) (s .n))
+    -- the count of v at i is the number of its neighbours below i
+    fall-counts : setPhi (image (withCounts (fieldsOf s) (raisedCounts s i v))) v i (below s v i)
         ≡ image (withCounts (fieldsOf s) (phi (ranked v i s)))
     unfolding withCounts base
     fall-counts =
-        setCount-image (withCounts (fieldsOf s) (raisedCounts s i v)) v i (count (s .owns v) (s .n)) (phi (ranked v i s))
-        (omega (arith, p .few)) (omega arith) (fall-own s p i v l r row) (λ w j d. fall-phi s p i v w j l r row d)
+        setCount-image (withCounts (fieldsOf s) (raisedCounts s i v)) v i (below s v i) (phi (ranked v i s))
+        (omega (arith, p .few)) (omega arith) (fall-own s p i v) (λ w j d. fall-phi s p i v w j l r row d)
 
-    pub fall-bytes : setRank (setPhi (image (withCounts (fieldsOf s) (raisedCounts s i v))) v i (count (s .owns v) (s .n))) v i
-        ≡ write (ranked v i s)
+    pub fall-bytes : setRank (setPhi (image (withCounts (fieldsOf s) (raisedCounts s i v))) v i (below s v i)) v i ≡ write (ranked v i s)
     fall-bytes = ap (λ (bs : List ℕ). setRank bs v i) fall-counts ∙ ranked-image s v i (omega (arith, p .few))
 
-    pub fall-fits : count (s .owns v) (s .n) < 256
-    fall-fits = omega (arith, fall-own s p i v l r row, phi-fits (ranked v i s) (ranked-proper s p v i l (omega arith)) v i)
+    pub fall-fits : below s v i < 256
+    fall-fits = omega (arith, fall-own s p i v, phi-fits (ranked v i s) (ranked-proper s p v i l (omega arith)) v i)
+
+    -- whether the counts that are raised stay below the threshold is whether those of the state with the new rank are
+    pub fall-says : {b : Bool} → Says b ((w : ℕ) → T (s .owns v w) → raisedCounts s i v w i < base .thr i)
+        → Says b ((w : ℕ) → T (s .owns v w) → phi (ranked v i s) w i < base .thr i)
+    fall-says =
+        says-by (λ low w t. omega (arith, fall-owned s p i v w l r row t, low w t))
+        (λ low w t. omega (arith, fall-owned s p i v w l r row t, low w t))

@@ -17,7 +17,7 @@ use Rattle.moves.specs.Proper.{Proper, ranked, RowBelow}
 use Rattle.moves.specs.Counts.{hit, loweredCounts, raisedCounts}
 use Rattle.moves.proofs.Edges.{edge-back, edge-turn, near-of, near-edge, near-low, edge-loop}
 use Rattle.moves.proofs.Choices.{Hit, hit-says, hit-of, lowered-yes, lowered-no, raised-yes, raised-no}
-use Rattle.moves.proofs.Keeps.{ranked-near, ranked-row, ranked-proper}
+use Rattle.moves.proofs.Keeps.{ranked-near, ranked-proper}
 
 -- counts and the number of edges depend on edges and ranks alone
 pub same-phi : (s t : State) → s .n ≡ t .n → ((v w : ℕ) → edge s v w ≡ edge t v w) → ((v : ℕ) → s .rank v ≡ t .rank v)
@@ -87,12 +87,14 @@ module _ (s : State) (p : Proper s) where
         count-some (near s w j) (s .n) u (p .inside u w (h .owned) .0) (near-of s w j u (edge-back s w u (h .owned)) (h .from)),
       )
 
-  -- the counts of u itself, above both its old rank and its new one
-  own-above : (u x j : ℕ) → s .rank u ≤ j → x ≤ j → phi (ranked u x s) u j ≡ phi s u j
+  -- u itself has as many neighbours below a level as before
+  own-below : (u x j : ℕ) → below (ranked u x s) u j ≡ below s u j
   unfolding below ranked
-  own-above u x j h k =
-      phi-above (ranked u x s) u j (omega (arith, ranked-here s u x))
-      ∙ count-ext (near (ranked u x s) u j) (near s u j) (s .n) (λ w l. ranked-near s p u x j w) ∙ sym (phi-above s u j h)
+  own-below u x j = count-ext (near (ranked u x s) u j) (near s u j) (s .n) (λ w l. ranked-near s p u x j w)
+
+  -- and the same counts, above both its old rank and its new one
+  own-above : (u x j : ℕ) → s .rank u ≤ j → x ≤ j → phi (ranked u x s) u j ≡ phi s u j
+  own-above u x j h k = phi-above (ranked u x s) u j (omega (arith, ranked-here s u x)) ∙ own-below u x j ∙ sym (phi-above s u j h)
 
   -- the counts when u goes up to level i, owning exactly the edges to its neighbours below it
   pub enter-own : (i u j : ℕ) → u < s .n → j ≤ i → phi (ranked u (suc i) s) u j ≡ 0
@@ -141,11 +143,8 @@ module _ (s : State) (p : Proper s) where
   ]
 
   -- the counts when v falls from level i, owning exactly the edges to its neighbours below it
-  pub fall-own : (i v : ℕ) → v < s .n → s .rank v ≡ suc i → RowBelow i v s → phi (ranked v i s) v i ≡ count (s .owns v) (s .n)
-  unfolding below ranked
-  fall-own i v l e f =
-      phi-above (ranked v i s) v i (omega (arith, ranked-here s v i))
-      ∙ count-ext (near (ranked v i s) v i) (s .owns v) (s .n) (λ w b. sym (ranked-row s p i v i f w))
+  pub fall-own : (i v : ℕ) → phi (ranked v i s) v i ≡ below s v i
+  fall-own i v = phi-above (ranked v i s) v i (omega (arith, ranked-here s v i)) ∙ own-below v i i
 
   fall-other : (i v w j : ℕ) → v < s .n → s .rank v ≡ suc i → RowBelow i v s → w ≢ v → s .rank w ≤ j
       → phi (ranked v i s) w j ≡ raisedCounts s i v w j
@@ -194,14 +193,12 @@ module _ (s : State) (p : Proper s) where
     ]
   ]
 
--- the raised counts fit a byte
+  -- the counts that are raised
+  pub fall-owned : (i v w : ℕ) → v < s .n → s .rank v ≡ suc i → RowBelow i v s → T (s .owns v w) → phi (ranked v i s) w i ≡ raisedCounts s i v w i
+  fall-owned i v w l e f t = fall-phi i v w i l e f (λ g. absurd (p .no-loop v (subst (λ (y : ℕ). T (s .owns v y)) g t)))
+
+-- they fit a byte
 pub raised-fits : (s : State) → Proper s → (i v w : ℕ) → v < s .n → s .rank v ≡ suc i → RowBelow i v s → T (s .owns v w)
-    → suc (phi s w i) < 256
+    → raisedCounts s i v w i < 256
 raised-fits s p i v w l e f t =
-    let d : w ≡ v → i ≢ i = λ g. absurd (p .no-loop v (subst (λ (y : ℕ). T (s .owns v y)) g t)) in
-    omega (
-      arith,
-      fall-phi s p i v w i l e f d,
-      raised-yes s i v w i t refl,
-      phi-fits (ranked v i s) (ranked-proper s p v i l (omega (arith, p .ranks v))) w i,
-    )
+    omega (arith, fall-owned s p i v w l e f t, phi-fits (ranked v i s) (ranked-proper s p v i l (omega (arith, p .ranks v))) w i)

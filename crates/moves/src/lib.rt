@@ -2,14 +2,17 @@
 // definition's state, that of a step the same of an image whose counts are half adjusted.
 ghost use mathlib.Core.Path.{_≡_};
 ghost use mathlib.Core.Logic.{_≢_};
-ghost use Prim.Native.Nat.{ℕ, suc, _+_, _<_, _≤_};
+ghost use Prim.Native.Nat.{ℕ, suc, _+_, _*_, _<_, _≤_};
 ghost use lib.Dec.{T};
-ghost use Rattle.model.specs.State.{base};
+ghost use Rattle.model.specs.Counting.{count};
+ghost use Rattle.model.specs.State.{base, below, phi};
 ghost use Rattle.model.specs.Bytes.{most as mostOf, phiAt, image, fieldsOf, read, write};
 ghost use Rattle.model.specs.Moves.{part as parted, rise as risen, marry as paired, handOver};
+ghost use Rattle.model.proofs.Facts.{Says};
+ghost use Rattle.theory.specs.Handing.{handedOn};
 ghost use Rattle.layout.specs.Setters.{Sized, own as owned, disown as disowned};
-ghost use Rattle.layout.specs.Rows.{degreeAt};
-ghost use Rattle.moves.specs.Proper.{Held, tookOver, ranked, RowBelow};
+ghost use Rattle.moves.specs.Proper.{Ordered, Held, tookOver, ranked, RowBelow};
+ghost use Rattle.moves.specs.Handing.{handed, kept, inWord, handedIn};
 ghost use Rattle.moves.specs.Counts.{withCounts, step, CanStep, none, recounted, loweredCounts, raisedCounts};
 
 // v's pair is parted; a free v stays as it is.
@@ -67,20 +70,61 @@ fn take_over(rack: &mut [u8], u: usize, i: usize)
     }
 }
 
-// v hands each edge that it owns to a vertex of its own level i to that vertex.
-pub fn hand_over(rack: &mut [u8], v: usize, i: usize)
+// What a pass over the row of a waiting vertex answers: how many edges it handed on, and how many vertices are below.
+pub struct Split {
+    pub handed: usize,
+    pub below: usize,
+}
+
+// The pass over word k of v's row, with what it came to so far. What stays of the word is gathered and written at its end.
+fn hand_word(rack: &mut [u8], v: usize, i: usize, k: usize, split: Split) -> Split
     requires { ⌜ Held (now rack) ⌝ }
+    requires { ⌜ (v < read (now rack) .n) × (read (now rack) .rank v ≡ suc i) × (64 * k < mostOf) ⌝ }
+    requires { ⌜ (split .handed ≤ mostOf) × (split .below ≤ mostOf) ⌝ }
+    ensures { λ _. ⌜ now (rack .exit) ≡ write (handedIn (inWord k 64) i v (read (now (rack .entry)))) ⌝ }
+    ensures { λ r. ⌜ r .handed ≡ split .handed + count (λ j. handed (read (now (rack .entry))) i v (64 * k + j)) 64 ⌝ }
+    ensures { λ r. ⌜ r .below ≡ split .below + count (λ j. kept (read (now (rack .entry))) i v (64 * k + j)) 64 ⌝ }
+{
+    let mut handed = split.handed;
+    let mut below = split.below;
+    let mut kept: u64 = 0;
+    let mut x = layout::word(rack, v, k);
+    while x != 0 {
+        let w = layout::walk::place(k, x);
+        let rest = x & (x - 1);
+        if layout::rank(rack, w) as usize == i + 1 {
+            layout::own(rack, w, v);
+            handed += 1;
+        } else {
+            kept += x - rest;
+            below += 1;
+        }
+        x = rest;
+    }
+    layout::words::set_word(rack, v, k, kept);
+    Split { handed, below }
+}
+
+// v hands each edge that it owns to a vertex of its own level i to that vertex. W-204: "hand links on and count what is below in one pass over
+// the board's row"; "The pass answers both numbers".
+pub fn hand_over(rack: &mut [u8], v: usize, i: usize) -> Split
+    requires { ⌜ (Held (now rack)) × (Ordered (read (now rack))) ⌝ }
     requires { ⌜ (v < read (now rack) .n) × (read (now rack) .rank v ≡ suc i) ⌝ }
     ensures { λ _. ⌜ now (rack .exit) ≡ write (handOver i v (read (now (rack .entry)))) ⌝ }
+    ensures { λ r. ⌜ r .handed ≡ count (handedOn (read (now (rack .entry))) (handOver i v (read (now (rack .entry)))) v) (read (now (rack .entry)) .n) ⌝ }
+    ensures { λ r. ⌜ r .below ≡ below (handOver i v (read (now (rack .entry)))) v i ⌝ }
 {
     let n = layout::size(rack);
-    let mut w = layout::next_owned(rack, v, 0);
-    while w < n {
-        if layout::rank(rack, w) as usize == i + 1 {
-            pass(rack, v, w);
-        }
-        w = layout::next_owned(rack, v, w + 1);
+    let mut split = Split {
+        handed: 0,
+        below: 0,
+    };
+    let mut k = 0;
+    while 64 * k < n {
+        split = hand_word(rack, v, i, k, split);
+        k += 1;
     }
+    split
 }
 
 // One more, or one less.
@@ -116,17 +160,17 @@ fn lower_counts(rack: &mut [u8], u: usize, i: usize)
     requires { ⌜ RowBelow i u (read (now rack)) ⌝ }
     ensures { λ _. ⌜ now (rack .exit) ≡ image (withCounts (fieldsOf (read (now (rack .entry)))) (loweredCounts (read (now (rack .entry))) i u)) ⌝ }
 {
-    let n = layout::size(rack);
     let from = layout::rank(rack, u) as usize;
-    let mut w = layout::next_owned(rack, u, 0);
-    while w < n {
+    let mut at = layout::walk::first(rack, u);
+    while at.rest != 0 {
+        let w = layout::walk::place(at.word, at.rest);
         let r = layout::rank(rack, w) as usize;
         if r < from {
             step_counts(rack, w, from, i + 1 - from, false);
         } else {
             step_counts(rack, w, r, i + 1 - r, false);
         }
-        w = layout::next_owned(rack, u, w + 1);
+        at = layout::walk::next(rack, u, at);
     }
 }
 
@@ -166,30 +210,40 @@ pub fn rise(rack: &mut [u8], u: usize, i: usize)
     enter(rack, u, i);
 }
 
-// The counts at i of the vertices to which v owns an edge gain v, which falls below level i.
-fn raise_counts(rack: &mut [u8], v: usize, i: usize)
+// The counts at i of the vertices to which v owns an edge gain v, which falls below level i; whether they all stay below the threshold.
+fn raise_counts(rack: &mut [u8], v: usize, i: usize) -> bool
     requires { ⌜ Held (now rack) ⌝ }
     requires { ⌜ (v < read (now rack) .n) × (read (now rack) .rank v ≡ suc i) × (i ≤ base .top) ⌝ }
     requires { ⌜ RowBelow i v (read (now rack)) ⌝ }
     ensures { λ _. ⌜ now (rack .exit) ≡ image (withCounts (fieldsOf (read (now (rack .entry)))) (raisedCounts (read (now (rack .entry))) i v)) ⌝ }
+    ensures { λ r. ⌜ Says r ((w : ℕ) → T (read (now (rack .entry)) .owns v w) → raisedCounts (read (now (rack .entry))) i v w i < base .thr i) ⌝ }
 {
-    let n = layout::size(rack);
-    let mut w = layout::next_owned(rack, v, 0);
-    while w < n {
-        let c = layout::phi(rack, w, i);
-        layout::set_phi(rack, w, i, c + 1);
-        w = layout::next_owned(rack, v, w + 1);
+    let bar = layout::threshold(i);
+    let mut low = true;
+    let mut at = layout::walk::first(rack, v);
+    while at.rest != 0 {
+        let w = layout::walk::place(at.word, at.rest);
+        let c = layout::phi(rack, w, i) + 1;
+        layout::set_phi(rack, w, i, c);
+        if bar <= c {
+            low = false;
+        }
+        at = layout::walk::next(rack, v, at);
     }
+    low
 }
 
-// "v falls to i-1", once it owns edges to vertices below i alone, k of them.
-pub fn fall(rack: &mut [u8], v: usize, i: usize, k: usize)
+// "v falls to i-1", once it owns edges to vertices below i alone, k of them; whether the counts at i of these vertices all stay below the
+// threshold.
+pub fn fall(rack: &mut [u8], v: usize, i: usize, k: usize) -> bool
     requires { ⌜ Held (now rack) ⌝ }
     requires { ⌜ (v < read (now rack) .n) × (read (now rack) .rank v ≡ suc i) × (i ≤ base .top) ⌝ }
-    requires { ⌜ (RowBelow i v (read (now rack))) × (k ≡ degreeAt (now rack) v) ⌝ }
+    requires { ⌜ (RowBelow i v (read (now rack))) × (k ≡ below (read (now rack)) v i) ⌝ }
     ensures { λ _. ⌜ now (rack .exit) ≡ write (ranked v i (read (now (rack .entry)))) ⌝ }
+    ensures { λ r. ⌜ Says r ((w : ℕ) → T (read (now (rack .entry)) .owns v w) → phi (ranked v i (read (now (rack .entry)))) w i < base .thr i) ⌝ }
 {
-    raise_counts(rack, v, i);
+    let low = raise_counts(rack, v, i);
     layout::set_phi(rack, v, i, k as u8);
     layout::set_rank(rack, v, i as u8);
+    low
 }

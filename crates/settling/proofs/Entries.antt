@@ -46,7 +46,7 @@ module _ (bs : List ℕ) (h : Held bs) (i u : ℕ) (l : u < read bs .n) (f : Row
   row-degree = held-degree h u (held-small h u l) ∙ row-below (read bs) i u f
 
   -- the vertex at the place that the word gives
-  pub row-chosen : (words : List ℕ) (t : Tally) (k y : ℕ) → k ≡ degreeAt bs u → NthOwned bs u (getD words (t .draws) 0 % k) y
+  pub row-chosen : (words : List ℕ) (t : Tally) (k y : ℕ) → k ≡ below (read bs) u i → NthOwned bs u (getD words (t .draws) 0 % k) y
       → (y ≡ chosen words i u (running bs [] t)) × T (near (read bs) u i y)
   unfolding place
   row-chosen words t k y d n =
@@ -54,5 +54,5 @@ module _ (bs : List ℕ) (h : Held bs) (i u : ℕ) (l : u < read bs .n) (f : Row
       let m = nth-in s (h .proper) bs (held-owns h) u (getD words (t .draws) 0 % k) y (held-small h u l) n in
       let c : T (near s u i y) = subst T (f y) (m .1) in
       let p : count (near s u i) y ≡ place words (t .draws) (below s u i) =
-      sym (count-ext (s .owns u) (near s u i) y (λ w b. f w)) ∙ m .2 ∙ ap (λ (x : ℕ). getD words (t .draws) 0 % x) (d ∙ row-degree) in
+      sym (count-ext (s .owns u) (near s u i) y (λ w b. f w)) ∙ m .2 ∙ ap (λ (x : ℕ). getD words (t .draws) 0 % x) d in
       (sym (chosen-at words i u (running bs [] t) y (m .0) c p), c)

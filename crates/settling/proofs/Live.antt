@@ -99,6 +99,20 @@ module _ (words : List ℕ) (i v : ℕ) (r : Run) (q : Proper (r .state)) (o : O
         | inr t ↦ rw (upto-no base words i p m r t) (scanned-live m)
       ]
 
+  -- the row only loses vertices
+  pub scanned-less : (m x : ℕ) → T (scanUpto base words i (r .state .owns v) (suc m) r .state .owns v x)
+      → T (scanUpto base words i (r .state .owns v) m r .state .owns v x)
+  scanned-less m x t =
+      let p : ℕ → Bool = r .state .owns v in
+      let u : Run = scanUpto base words i p m r in
+      let a : SameEdges (r .state) (u .state) = scanned-kept m in
+      elim (holds? (p m)) [
+        | inl h ↦ live-visited i v (u .state .owns v) words m u (a .proper) (a .ordered) (omega (arith, a .size, q .inside v m h .1)) k
+            (record { near = scanned-live m .near; from = λ y b. b }) .from x
+            (subst (λ (z : Run). T (z .state .owns v x)) (upto-yes base words i p m r h) t)
+        | inr h ↦ subst (λ (z : Run). T (z .state .owns v x)) (upto-no base words i p m r h) t
+      ]
+
   -- a vertex of the first row that is in the row no longer is not due
   passed : (m x : ℕ) → T (r .state .owns v x) → (T (scanUpto base words i (r .state .owns v) m r .state .owns v x) → ⊥)
       → T (due base i x (scanUpto base words i (r .state .owns v) m r .state)) → ⊥

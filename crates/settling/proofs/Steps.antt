@@ -129,12 +129,15 @@ chosen-near words i u r h =
     All-at (λ x. (x < s .n) × T (near s u i x)) l (listed-all (near s u i) (s .n)) (getD l (place words (r .draws) (length l)) 0)
     (getD-mem l (place words (r .draws) (length l)) (place-less words (r .draws) (length l) k)) .1
 
--- a due vertex stands below the level and has a neighbour below it
+-- a due vertex has come to the threshold; it stands below the level and has a neighbour below it
+pub due-reached : (i w : ℕ) (s : State) → T (due base i w s) → base .thr i ≤ phi s w i
+unfolding due
+due-reached i w s t = leb→le (base .thr i) (phi s w i) (and-right (leb (s .rank w) i) _ t)
+
 pub due-low : (i w : ℕ) (s : State) → T (due base i w s) → (s .rank w ≤ i) × (1 ≤ below s w i)
 unfolding due
 due-low i w s t =
-    let k : base .thr i ≤ phi s w i = leb→le (base .thr i) (phi s w i) (and-right (leb (s .rank w) i) _ t) in
-    (leb→le (s .rank w) i (and-left (leb (s .rank w) i) _ t), omega (arith, phi-below s w i, base-pos i))
+    (leb→le (s .rank w) i (and-left (leb (s .rank w) i) _ t), omega (arith, due-reached i w s t, phi-below s w i, base-pos i))
 
 -- Whole moves of a run.
 module _ (words : List ℕ) (i u : ℕ) (r : Run) (p : Proper (r .state)) (o : Ordered (r .state)) (l : u < r .state .n) (k : i ≤ base .top) where

@@ -1,33 +1,34 @@
 -- A taking on bytes: v leaves the queue and hands over, then it draws, or it falls, joins again, and its row is gone through. What each asks,
 -- and what is left in the end. Assumes nothing.
 use mathlib.Core.Path.{_≡_, refl, sym, ap, _∙_, subst}
+use mathlib.Core.Logic.{inl, inr}
+use mathlib.Core.Bool.{Bool}
 use mathlib.Core.List.{List}
-use Prim.Native.Nat.{ℕ, suc, _≤_, _<_}
+use Prim.Native.Nat.{ℕ, zero, suc, _≤_, _<_}
 use native.Mathlib.Omega.{arith}
 use lib.Dec.{T}
 use lib.ListN.{length, take as first}
-use Rattle.model.specs.State.{Rules, base, State, below}
+use Rattle.model.specs.State.{base, State, below, phi}
 use Rattle.model.specs.Bytes.{read, write}
-use Rattle.model.specs.Moves.{Run, join, without, handed, handOver, fall, draw, scan, scanFrom, take}
-use Rattle.model.proofs.Counting.{count-some}
-use Rattle.model.proofs.Lists.{listed-none}
+use Rattle.model.specs.Moves.{Run, join, without, handed, handOver, fall, draw, due, scanFrom, take}
+use Rattle.model.proofs.Tests.{holds?}
 use Rattle.theory.specs.Waiting.{queuesIn, joinQueue}
+use Rattle.theory.proofs.Loops.{scanUpto, scanFrom-loop}
 use Rattle.theory.proofs.Matching.{base-pos}
-use Rattle.layout.specs.Rows.{degreeAt}
 use Rattle.moves.specs.Proper.{Ordered, Held, RowBelow, ranked}
-use Rattle.moves.proofs.Held.{reads-as, held-of, held-small, held-degree}
+use Rattle.moves.proofs.Held.{reads-as, held-of}
 use Rattle.moves.proofs.Keeps.{hand-row, ranked-row}
-use Rattle.settling.specs.Settling.{queueIn, running, HoldsWaitingBut, HoldsWaiting, Requeued, Falling, Left, drawLimit, takeLimit}
+use Rattle.settling.specs.Settling.{queueIn, running, HoldsWaitingBut, HoldsWaiting, Requeued, Falling, Left, visited, drawLimit, takeLimit}
 use Rattle.settling.specs.declared.tally.Tally.{Tally}
-use Rattle.settling.proofs.Steps.{hand-kept, fall-kept}
-use Rattle.settling.proofs.News.{draw-same, fall-same, scanFrom-same}
+use Rattle.settling.proofs.Steps.{hand-kept, fall-kept, due-reached}
+use Rattle.settling.proofs.News.{draw-same, fall-same, scanFrom-same, visited-no, upto-none, upto-yes, upto-no}
 use Rattle.settling.proofs.Kept.{SameEdges, SameRun, take-draws, take-falls}
 use Rattle.settling.proofs.Holding.{left-holds, left-levels, fallen-holds, fallen-levels}
-use Rattle.settling.proofs.Entries.{row-degree}
 use Rattle.settling.proofs.Written.{Draws, draws-of, levels-as, left-same}
 
--- v, waiting at level i, has left the queue and handed its edges of that level on: bs, places and t before, b, places′ and t′ after
-pub record Handed (bs places : List ℕ) (t : Tally) (i v : ℕ) (b places′ : List ℕ) (t′ : Tally) : Type 0 where
+-- v, waiting at level i, has left the queue and handed its edges of that level on, and k vertices are below: bs, places and t before, b,
+-- places′ and t′ after
+pub record Handed (bs places : List ℕ) (t : Tally) (i v k : ℕ) (b places′ : List ℕ) (t′ : Tally) : Type 0 where
   pub held : Held bs
   pub ordered : Ordered (read bs)
   pub inside : v < read bs .n
@@ -38,8 +39,9 @@ pub record Handed (bs places : List ℕ) (t : Tally) (i v : ℕ) (b places′ : 
   pub left : Requeued (without v (queueIn places t)) t places′ t′
   pub long : length places′ ≡ length places
   pub bytes : b ≡ write (handOver i v (read bs))
+  pub size : k ≡ below (handOver i v (read bs)) v i
 
-module _ {bs places : List ℕ} {t : Tally} {i v : ℕ} {b places′ : List ℕ} {t′ : Tally} (a : Handed bs places t i v b places′ t′) where
+module _ {bs places : List ℕ} {t : Tally} {i v k : ℕ} {b places′ : List ℕ} {t′ : Tally} (a : Handed bs places t i v k b places′ t′) where
   handed-kept : SameEdges (read bs) (handOver i v (read bs))
   handed-kept = hand-kept (read bs) (a .held .proper) (a .ordered) i v (a .inside) (a .rank)
 
@@ -62,31 +64,25 @@ module _ {bs places : List ℕ} {t : Tally} {i v : ℕ} {b places′ : List ℕ}
   pub handed-waits : HoldsWaitingBut v places′ t′ (read b)
   handed-waits = subst (HoldsWaitingBut v places′ t′) (sym handed-read) handed-holds
 
-  pub handed-falls : (k : ℕ) → k ≡ degreeAt b v → Falling b i v k
+  pub handed-falls : Falling b i v k
   unfolding handOver
-  handed-falls k e = record {
+  handed-falls = record {
     inside = omega (arith, a .inside, ap (λ (s : State). s .n) handed-read);
     free = ap (λ (s : State). s .mate v) handed-read ∙ a .free;
     rank = ap (λ (s : State). s .rank v) handed-read ∙ a .rank;
     level = a .level;
     row = subst (RowBelow i v) (sym handed-read) handed-row;
-    size = e;
+    size = a .size ∙ ap (λ (s : State). below s v i) (sym handed-read);
   }
 
-  -- the row's size is what is held against the threshold
-  handed-degree : degreeAt b v ≡ below (handOver i v (read bs)) v i
-  handed-degree =
-      let f : Falling b i v (degreeAt b v) = handed-falls (degreeAt b v) refl in
-      row-degree b (handed-held .0) i v (f .inside) (f .row) ∙ ap (λ (s : State). below s v i) handed-read
-
-  pub handed-draws : (k : ℕ) → k ≡ degreeAt b v → base .thr i ≤ degreeAt b v → t .draws ≤ drawLimit → Draws b i v k places′ t′ (read b)
+  pub handed-draws : base .thr i ≤ k → t .draws ≤ drawLimit → Draws b i v k places′ t′ (read b)
   unfolding handOver
-  handed-draws k g n x =
+  handed-draws n x =
       draws-of (handOver i v (read bs)) (a .bytes) (handed-kept .proper) i v k t′ (
         (handed-held .0, handed-kept .ordered),
         (
           (a .inside, a .free, a .rank, a .level),
-          ((handed-row, omega (arith, base-pos i, handed-degree), g), (handed-holds, omega (arith, a .left .draws))),
+          ((handed-row, omega (arith, base-pos i, a .size), a .size), (handed-holds, omega (arith, a .left .draws))),
         ),
       )
 
@@ -100,15 +96,15 @@ module _ {bs places : List ℕ} {t : Tally} {i v : ℕ} {b places′ : List ℕ}
     falls = a .left .falls;
   }
 
-  pub taken-draws : (words : List ℕ) {places″ d : List ℕ} {r : Tally} → base .thr i ≤ degreeAt b v
+  pub taken-draws : (words : List ℕ) {places″ d : List ℕ} {r : Tally} → base .thr i ≤ k
       → Left (draw words i v (running b places′ t′)) d places″ r → Left (take base words i v (running bs places t)) d places″ r
   taken-draws words n c =
-      rw (take-draws words i v (running bs places t) (omega (arith, handed-degree))) (left-same (draw-same words i v handed-run) c)
+      rw (take-draws words i v (running bs places t) (omega (arith, a .size))) (left-same (draw-same words i v handed-run) c)
 
-  pub taken-falls : (words : List ℕ) {places″ d : List ℕ} {r : Tally} → degreeAt b v < base .thr i
+  pub taken-falls : (words : List ℕ) {places″ d : List ℕ} {r : Tally} → k < base .thr i
       → Left (scanFrom base words i v (fall i v (running b places′ t′))) d places″ r → Left (take base words i v (running bs places t)) d places″ r
   taken-falls words n c =
-      rw (take-falls words i v (running bs places t) (omega (arith, handed-degree)))
+      rw (take-falls words i v (running bs places t) (omega (arith, a .size)))
       (left-same (scanFrom-same base words i v (fall-same i v handed-run)) c)
 
 -- v has fallen from level i and has joined the end of its new level: bs, places and t before, b, places′ and t′ after
@@ -121,10 +117,16 @@ pub record Fallen (bs places : List ℕ) (t : Tally) (i v k : ℕ) (b places′ 
   pub long : length places′ ≡ length places
   pub bytes : b ≡ write (ranked v i (read bs))
 
--- where v owns no edge, there is nobody to go through
-scanFrom-none : (R : Rules) (words : List ℕ) (i v : ℕ) (r : Run) → ((w : ℕ) → w < r .state .n → T (r .state .owns v w) → ⊥) → scanFrom R words i v r ≡ r
-unfolding scanFrom scan
-scanFrom-none R words i v r h = rw (listed-none (r .state .owns v) (r .state .n) h, scanFrom) refl
+-- where nobody of the row is due, nothing happens in the scan
+upto-quiet : (words : List ℕ) (i : ℕ) (p : ℕ → Bool) (m : ℕ) (r : Run) → ((w : ℕ) → T (p w) → T (due base i w (r .state)) → ⊥)
+    → scanUpto base words i p m r ≡ r
+upto-quiet words i p zero r h = upto-none base words i p r
+upto-quiet words i p (suc m) r h =
+    let e : scanUpto base words i p m r ≡ r = upto-quiet words i p m r h in
+    elim (holds? (p m)) [
+      | inl t ↦ upto-yes base words i p m r t ∙ ap (visited base words i m) e ∙ visited-no base words i m r (h m t)
+      | inr t ↦ upto-no base words i p m r t ∙ e
+    ]
 
 -- what the scan after a fall asks
 abbrev pub Scans : List ℕ → ℕ → ℕ → List ℕ → Tally → State → Type 0
@@ -167,17 +169,12 @@ module _ {bs places : List ℕ} {t : Tally} {i v k : ℕ} {b places′ : List �
         → Left (scanFrom base words i v (fall i v (running bs places t₀))) d places″ r
     fallen-left words c = left-same (scanFrom-same base words i v fallen-run) c
 
-    -- a row of none: there is nobody to go through
-    pub fallen-alone : (words : List ℕ) → k ≡ 0 → t .draws ≤ takeLimit → Left (scanFrom base words i v (fall i v (running bs places t₀))) b places′ t′
-    unfolding fall
-    fallen-alone words z x =
+    -- all counts at i are below the threshold: nobody rises
+    pub fallen-low : (words : List ℕ) → ((w : ℕ) → T (read bs .owns v w) → phi (ranked v i (read bs)) w i < base .thr i) → t .draws ≤ takeLimit
+        → Left (scanFrom base words i v (fall i v (running bs places t₀))) b places′ t′
+    unfolding fall ranked
+    fallen-low words low x =
         let g = fallen-scans x in
-        let alone : (w : ℕ) → w < read bs .n → T (read bs .owns v w) → ⊥ = λ w l o. omega (
-          arith,
-          z,
-          a .falls .size,
-          held-degree (a .held) v (held-small (a .held) v (a .falls .inside)),
-          count-some (read bs .owns v) (read bs .n) w l o,
-        ) in
-        rw (scanFrom-none base words i v (fall i v (running bs places t₀)) alone)
+        let r : Run = fall i v (running bs places t₀) in
+        rw (scanFrom-loop base words i v r ∙ upto-quiet words i (read bs .owns v) (read bs .n) r (λ w o u. omega (arith, low w o, due-reached i w (r .state) u)))
         (left-same fallen-run (record { rack = g .0 .0 .written; queues = refl; draws = refl; falls = refl; holds = g .1 .1 .0 }))

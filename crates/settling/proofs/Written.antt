@@ -12,7 +12,6 @@ use Rattle.model.specs.Moves.{Run, lifted, part, rise, marry, chosen, drawn, dr
 use Rattle.model.proofs.Limits.{phi-above}
 use Rattle.theory.specs.Waiting.{marks, queuesIn, partQueue}
 use Rattle.theory.proofs.Fits.{lift-is}
-use Rattle.layout.specs.Rows.{degreeAt}
 use Rattle.moves.specs.Proper.{Proper, Ordered, Held, RowBelow, tookOver}
 use Rattle.moves.proofs.Edges.{near-low}
 use Rattle.moves.proofs.Keeps.{part-proper, took-proper, took-row, ranked-row, rise-halves}
@@ -21,7 +20,7 @@ use Rattle.settling.specs.Settling.{queueIn, running, HoldsWaitingBut, H
 use Rattle.settling.specs.declared.tally.Tally.{Tally}
 use Rattle.settling.proofs.Steps.{SameEdges, lift-below, lift-kept, near-inside, near-other}
 use Rattle.settling.proofs.News.{SameRun, draw-same}
-use Rattle.settling.proofs.Entries.{row-degree, level-small}
+use Rattle.settling.proofs.Entries.{level-small}
 use Rattle.settling.proofs.Holding.{holds-as, risen-holds, risen-levels, drawn-holds, drawn-levels}
 
 -- the queues that a queue makes of another state's ranks
@@ -61,7 +60,7 @@ abbrev pub Draws : List ℕ → ℕ → ℕ → ℕ → List ℕ → Tally → S
 Draws b i u k places t s =
     (Held b × Ordered s) × (
     ((u < s .n) × (s .mate u ≡ u) × (s .rank u ≡ suc i) × (i ≤ base .top))
-    × ((RowBelow i u s × (1 ≤ below s u i) × (k ≡ degreeAt b u)) × (HoldsWaitingBut u places t s × (t .draws ≤ drawLimit)))
+    × ((RowBelow i u s × (1 ≤ below s u i) × (k ≡ below s u i)) × (HoldsWaitingBut u places t s × (t .draws ≤ drawLimit)))
     )
 
 pub draws-of : {b places : List ℕ} (s : State) → b ≡ write s → Proper s → (i u k : ℕ) (t : Tally) → Draws b i u k places t s
@@ -109,16 +108,11 @@ module _ {bs : List ℕ} {i v : ℕ} (a : Rising bs i v) {b : List ℕ} where
   -- v draws next
   module _ (e : b ≡ write (rise i v (part v (read bs)))) {places places′ : List ℕ} {t t′ : Tally} (h : HoldsWaiting places t (read bs))
       (q : Requeued (partQueue (marks (read bs)) v (queueIn places t)) t places′ t′) (long : length places′ ≡ length places) where
-    -- its count before the rise is the size of its row then
-    lifted-degree : phiAt bs v i ≡ degreeAt b v
-    lifted-degree =
-        let s : State = rise i v (part v (read bs)) in
-        let row : RowBelow i v s = lift-row (read bs) (a .held .proper) (a .ordered) i v (a .inside) (a .low) in
+    -- its count before the rise is how many it draws among
+    lifted-count : phiAt bs v i ≡ below (rise i v (part v (read bs))) v i
+    lifted-count =
         held-phi (a .held) v i (held-small (a .held) v (a .inside)) (level-small i (a .level))
         ∙ phi-above (read bs) v i (a .low) ∙ sym (lift-below (read bs) (a .held .proper) (a .ordered) i v (a .inside))
-        ∙ ap (λ (z : State). below z v i) (sym (lifted-read e))
-        ∙ sym (row-degree b (lifted-held e) i v (omega (arith, ap (λ (z : State). z .n) (lifted-read e), lifted-kept a .size, a .inside))
-        (subst (RowBelow i v) (sym (lifted-read e)) row))
 
     pub lifted-draws : (k : ℕ) → 1 ≤ below (read bs) v i → t .draws ≤ drawLimit → k ≡ phiAt bs v i → Draws b i v k places′ t′ (read b)
     lifted-draws k n x g =
@@ -131,7 +125,7 @@ module _ {bs : List ℕ} {i v : ℕ} (a : Rising bs i v) {b : List ℕ} where
               (
                 lift-row (read bs) (a .held .proper) (a .ordered) i v (a .inside) (a .low),
                 omega (arith, lift-below (read bs) (a .held .proper) (a .ordered) i v (a .inside)),
-                g ∙ lifted-degree,
+                g ∙ lifted-count,
               ),
               (risen-holds long h q i (a .inside), omega (arith, q .draws)),
             ),

@@ -7,11 +7,10 @@ use mathlib.Core.List.{List, []}
 use Prim.Native.Nat.{ℕ, suc, _≤_, _<_}
 use lib.ListN.{length, take}
 use Rattle.model.specs.Lists.{Mem, Distinct, Lists}
-use Rattle.model.specs.State.{Rules, State, base}
+use Rattle.model.specs.State.{Rules, State, base, below}
 use Rattle.model.specs.Bytes.{read, write}
 use Rattle.model.specs.Moves.{Run, due, promote, Found, none, found}
 use Rattle.theory.specs.Waiting.{marks, Waits, Paired, queuesIn}
-use Rattle.layout.specs.Rows.{degreeAt}
 use Rattle.moves.specs.Proper.{RowBelow}
 use Rattle.settling.specs.declared.tally.Tally.{Tally}
 use Rattle.settling.specs.declared.Choice.{Choice}
@@ -68,7 +67,7 @@ pub record Falling (bs : List ℕ) (i v k : ℕ) : Type 0 where
   pub rank : read bs .rank v ≡ suc i
   pub level : i ≤ base .top
   pub row : RowBelow i v (read bs)
-  pub size : k ≡ degreeAt bs v
+  pub size : k ≡ below (read bs) v i
 
 -- how far a figure may have come for one more draw or fall to be counted, and for a whole taking, whose scan draws at most once for each vertex
 abbrev pub drawLimit : ℕ

@@ -10,7 +10,6 @@ ghost use Rattle.model.specs.State.{base, near, below};
 ghost use Rattle.model.specs.Bytes.{read, write};
 ghost use Rattle.model.specs.Moves.{part as parted, rise as risen, chosen, draw as drawn, promote as promoted, without, fall as fallen, scanFrom, take as taken, pick as picked, settle as settled};
 ghost use Rattle.theory.specs.Waiting.{marks, queuesIn, joinQueue, partQueue};
-ghost use Rattle.layout.specs.Rows.{degreeAt};
 ghost use Rattle.moves.specs.Proper.{Ordered, Held, RowBelow};
 ghost use Rattle.settling.specs.Settling.{queueIn, running, HoldsWaitingBut, HoldsWaiting, CanPart, Requeued, Falling, Room, Left, visited, foundBy, drawLimit, takeLimit};
 
@@ -72,7 +71,7 @@ fn requeue(rack: &[u8], queue: &mut [u16], v: usize, tally: Tally) -> Tally
 // The vertex that the next word draws: u's row holds its neighbours below level i, k of them, and trailing zeros lead to the place in it.
 fn choose(rack: &[u8], words: &[u32], u: usize, i: usize, k: usize, tally: Tally) -> usize
     requires { ⌜ Held (now rack) ⌝ }
-    requires { ⌜ (u < read (now rack) .n) × (RowBelow i u (read (now rack))) × (1 ≤ below (read (now rack)) u i) × (k ≡ degreeAt (now rack) u) ⌝ }
+    requires { ⌜ (u < read (now rack) .n) × (RowBelow i u (read (now rack))) × (1 ≤ below (read (now rack)) u i) × (k ≡ below (read (now rack)) u i) ⌝ }
     ensures { λ r. ⌜ (r ≡ chosen (now (words .entry)) i u (running (now (rack .entry)) [] tally)) × (T (near (read (now (rack .entry))) u i r)) ⌝ }
 {
     let word = nth_word(words, tally.draws as usize);
@@ -105,7 +104,7 @@ fn draw(
 ) -> Tally
     requires { ⌜ (Held (now rack)) × (Ordered (read (now rack))) ⌝ }
     requires { ⌜ (u < read (now rack) .n) × (read (now rack) .mate u ≡ u) × (read (now rack) .rank u ≡ suc i) × (i ≤ base .top) ⌝ }
-    requires { ⌜ (RowBelow i u (read (now rack))) × (1 ≤ below (read (now rack)) u i) × (k ≡ degreeAt (now rack) u) ⌝ }
+    requires { ⌜ (RowBelow i u (read (now rack))) × (1 ≤ below (read (now rack)) u i) × (k ≡ below (read (now rack)) u i) ⌝ }
     requires { ⌜ (HoldsWaitingBut u (now queue) tally (read (now rack))) × (tally .draws ≤ drawLimit) ⌝ }
     ensures { λ r. ⌜ Left (drawn (now (words .entry)) i u (running (now (rack .entry)) (now (queue .entry)) tally)) (now (rack .exit)) (now (queue .exit)) r ⌝ }
 {
@@ -157,8 +156,8 @@ fn visit(
     promote(rack, queue, words, w, i, tally)
 }
 
-// "Then the boards to which v owned links just after the fall are gone through by rising number": the row is walked as it is now, since
-// a vertex that has left it meanwhile stands at level i and would be passed over.
+// "Then the boards to which v owned links just after the fall are gone through by rising number": the row is walked a word at a time while
+// it changes, since a vertex that has left it meanwhile stands at level i and is passed over.
 fn scan(
     rack: &mut [u8],
     queue: &mut [u16],
@@ -172,12 +171,12 @@ fn scan(
     requires { ⌜ (HoldsWaiting (now queue) tally (read (now rack))) × (tally .draws ≤ takeLimit) ⌝ }
     ensures { λ r. ⌜ Left (scanFrom base (now (words .entry)) i v (running (now (rack .entry)) (now (queue .entry)) tally)) (now (rack .exit)) (now (queue .exit)) r ⌝ }
 {
-    let n = layout::size(rack);
     let mut t = tally;
-    let mut w = layout::next_owned(rack, v, 0);
-    while w < n {
+    let mut at = layout::walk::first(rack, v);
+    while at.rest != 0 {
+        let w = layout::walk::place(at.word, at.rest);
         t = visit(rack, queue, words, w, i, t);
-        w = layout::next_owned(rack, v, w + 1);
+        at = layout::walk::next(rack, v, at);
     }
     t
 }
@@ -193,7 +192,8 @@ fn rejoin(queue: &mut [u16], v: usize, i: usize, tally: Tally) -> Tally
     join(queue, v, tally)
 }
 
-// "If not, v falls to i-1", with a row of k: "A board that falls joins the end of its new level before any rise that follows the fall."
+// "If not, v falls to i-1", with k neighbours below i: "A board that falls joins the end of its new level before any rise that follows the
+// fall." Where no count of theirs has come to the threshold, nobody rises.
 fn fall(
     rack: &mut [u8],
     queue: &mut [u16],
@@ -208,9 +208,9 @@ fn fall(
     requires { ⌜ (HoldsWaitingBut v (now queue) tally (read (now rack))) × (Room takeLimit takeLimit tally) ⌝ }
     ensures { λ r. ⌜ Left (scanFrom base (now (words .entry)) i v (fallen i v (running (now (rack .entry)) (now (queue .entry)) tally))) (now (rack .exit)) (now (queue .exit)) r ⌝ }
 {
-    moves::fall(rack, v, i, k);
+    let low = moves::fall(rack, v, i, k);
     let t = rejoin(queue, v, i, tally.fell());
-    if k == 0 {
+    if low {
         return t;
     }
     scan(rack, queue, words, v, i, t)
@@ -231,8 +231,7 @@ fn take(
     ensures { λ r. ⌜ Left (taken base (now (words .entry)) i v (running (now (rack .entry)) (now (queue .entry)) tally)) (now (rack .exit)) (now (queue .exit)) r ⌝ }
 {
     let t = leave(queue, v, tally);
-    moves::hand_over(rack, v, i);
-    let k = layout::degree(rack, v);
+    let k = moves::hand_over(rack, v, i).below;
     if layout::threshold(i) as usize <= k {
         return draw(rack, queue, words, v, i, k, t);
     }

@@ -1,32 +1,30 @@
 -- `moves::fall` meets its contract: the raised counts, v's own count at i and its rank are those of the state with v at rank i. Assumes
 -- nothing.
-use mathlib.Core.Path.{_≡_, ap, ap₂, _∙_}
+use mathlib.Core.Path.{ap, ap₂, _∙_}
 use mathlib.Core.List.{List}
 use Prim.Native.Nat.{ℕ, _<_}
 use native.Mathlib.Omega.{arith}
 use borrow.Author.Needs.{needs}
 use Rattle.model.specs.State.{base}
-use Rattle.model.specs.Counting.{count}
 use Rattle.model.specs.Bytes.{read}
 use Rattle.layout.specs.Setters.{setPhi, setRank}
-use Rattle.moves.proofs.Held.{held-sized, held-degree, held-small}
-use Rattle.moves.proofs.RankSteps.{fall-bytes, fall-fits}
+use Rattle.moves.proofs.Held.{held-sized, held-small}
+use Rattle.moves.proofs.RankSteps.{fall-bytes, fall-fits, fall-says}
 use Rattle.moves.proofs.fall.Statement.{statement}
 use Rattle.moves.proofs.fall.Tie as tie
 
--- the figure is the number of edges that v owns, and fits a byte
-owned : (c : tie.Start) → let s = read (c .args .rack .now) in (c .args .k ≡ count (s .owns (c .args .v)) (s .n)) × (c .args .k < 256)
-owned c =
+-- the figure fits a byte
+fits : (c : tie.Start) → c .args .k < 256
+fits c =
     let a = c .args in
     let p = c .pre in
-    let k = p .1 .1 .1 ∙ held-degree (p .0) (a .v) (held-small (p .0) (a .v) (p .1 .0 .0)) in
-    (k, omega (arith, k, fall-fits (read (a .rack .now)) (p .0 .proper) (a .i) (a .v) (p .1 .0 .0) (p .1 .0 .2) (p .1 .1 .0) (p .1 .0 .1)))
+    omega (arith, p .1 .1 .1, fall-fits (read (a .rack .now)) (p .0 .proper) (a .i) (a .v) (p .1 .0 .0) (p .1 .0 .2) (p .1 .1 .0) (p .1 .0 .1))
 
 raise-counts-requires : tie.Need-raise-counts-requires
 raise-counts-requires c κs = let p = c .before .before .pre in (p .0, (p .1 .0, p .1 .1 .0))
 
 cast-set-phi : tie.Need-cast-set-phi
-cast-set-phi c = omega (arith, owned (c .before .before .before .before .before .before) .1)
+cast-set-phi c = omega (arith, fits (c .before .before .before .before .before .before))
 
 set-phi-requires : tie.Need-set-phi-requires
 unfolding base
@@ -58,10 +56,13 @@ returns c =
     let a = start .args in
     let p = start .pre in
     let s = read (a .rack .now) in
+    let row = p .1 .1 .0 in
     let last : List ℕ → ℕ → List ℕ = λ bs x. setRank (setPhi bs (a .v) (a .i) x) (a .v) (a .i) in
+    let bytes =
     ended .set-rank .ensures ∙ ap (λ (bs : List ℕ). setRank bs (a .v) (a .i)) (counted .set-phi .ensures)
-    ∙ ap₂ last (raised .raise-counts .ensures) (owned start .0)
-    ∙ fall-bytes s (p .0 .proper) (a .i) (a .v) (p .1 .0 .0) (p .1 .0 .2) (p .1 .1 .0) (p .1 .0 .1)
+    ∙ ap₂ last (raised .raise-counts .ensures .0) (p .1 .1 .1)
+    ∙ fall-bytes s (p .0 .proper) (a .i) (a .v) (p .1 .0 .0) (p .1 .0 .2) row (p .1 .0 .1) in
+    (bytes, fall-says s (p .0 .proper) (a .i) (a .v) (p .1 .0 .0) (p .1 .0 .2) row (p .1 .0 .1) (raised .raise-counts .ensures .1))
 
 pub fall-spec : {M : Type 1} → statement M
 fall-spec =

@@ -1,23 +1,30 @@
--- `moves::raise_counts` meets its contract. The loop's invariant: the vertices of v's row below w have their new counts. Assumes nothing.
+-- `moves::raise_counts` meets its contract. The loop's invariant: the vertices of v's row that the walk has passed have their new counts, and
+-- `low` says that these are below the threshold. Assumes nothing.
 use mathlib.Core.Path.{_≡_}
-use Prim.Native.Nat.{_-_, _<_}
+use mathlib.Core.Logic.{⊎-elim}
+use Prim.Native.Nat.{_+_, _-_, _<_}
 use native.Mathlib.Omega.{arith}
 use lib.Dec.{T}
-use Rattle.model.specs.State.{base}
-use Rattle.model.specs.Bytes.{sizeAt, read}
+use Rattle.model.specs.Counting.{upd}
+use Rattle.model.specs.State.{base, State}
+use Rattle.model.specs.Bytes.{read}
+use Rattle.model.proofs.Facts.{Says}
 use Rattle.layout.specs.Setters.{Sized}
+use Rattle.layout.proofs.Said.{says-is}
 use Rattle.moves.specs.Counts.{raisedCounts}
 use Rattle.moves.proofs.Held.{held-sized}
 use Rattle.moves.proofs.Recount.{raised-fits}
-use Rattle.moves.proofs.CountWalk.{counted-phi, RowCounted, Walk, u-small, row-starts, w-small, w-owned, w-sized, row-goes-on, row-ends, same-size, raised-quiet, raised-turn}
+use Rattle.layout.proofs.Reached.{reached, further-less}
+use Rattle.moves.proofs.CountWalk.{Counted, counted-sized, RowCounted, Walk, u-small, came-first, row-starts, w-reached, w-small, w-owned, w-sized, came-next, row-goes-on, row-ends, same-size, raised-quiet, raised-is, raised-turn, LowTo, low-start, low-yes, low-no, low-end}
 use Rattle.moves.proofs.raise_counts.Statement.{statement}
 use Rattle.moves.proofs.raise_counts.Tie as tie
 
 abbrev Inv-loop : tie.InvT-loop
-Inv-loop rack₀ v i n w₀ rack w = RowCounted (read rack₀) (raisedCounts (read rack₀) i v) v rack w
+Inv-loop rack₀ v i bar low₀ at₀ rack low at =
+    let s = read rack₀ in RowCounted s (raisedCounts s i v) v rack at × Says low (LowTo s i v (reached at))
 
 abbrev μ-loop : tie.MeasureT-loop
-μ-loop rack₀ v i n w₀ rack w = n - w
+μ-loop rack₀ v i bar low₀ at₀ rack low at = 256 - reached at
 
 walk : (d : tie.Start Inv-loop μ-loop)
     → Walk (d .args .rack .now) (raisedCounts (read (d .args .rack .now)) (d .args .i) (d .args .v)) (d .args .v)
@@ -27,87 +34,141 @@ walk d = record {
   quiet = raised-quiet (read (d .args .rack .now)) (d .args .i) (d .args .v);
 }
 
--- where the function begins, and what was read there
+-- where the function begins
 abbrev begin : tie.At-loop Inv-loop μ-loop → tie.Start Inv-loop μ-loop
-begin at = at .before .before .before .before .before .before
+begin at = at .before .before .before .before .before
 
-size-is : (at : tie.At-loop Inv-loop μ-loop) → at .before .before .before .size .result ≡ sizeAt (begin at .args .rack .now)
-size-is at = at .before .before .before .size .ensures
+-- the loop, seen from a turn that has its place
+abbrev turn : tie.After-place Inv-loop μ-loop → tie.At-loop Inv-loop μ-loop
+turn c = c .before .before .before
+
+abbrev state : tie.At-loop Inv-loop μ-loop → State
+state at = read (begin at .args .rack .now)
 
 level : (at : tie.At-loop Inv-loop μ-loop) → begin at .args .i < 4
 unfolding base
 level at = omega arith
 
--- what holds in a turn
-small : (c : tie.In-loop Inv-loop μ-loop) → c .before .loop .w < 256
-small c = w-small (walk (begin (c .before))) (c .before .loop .inv) (size-is (c .before)) (c .loop-test .taken)
-
-owned : (c : tie.In-loop Inv-loop μ-loop)
-    → T (read (begin (c .before) .args .rack .now) .owns (begin (c .before) .args .v) (c .before .loop .w))
-owned c = w-owned (walk (begin (c .before))) (c .before .loop .inv) (size-is (c .before)) (c .loop-test .taken)
-
 sized : (at : tie.At-loop Inv-loop μ-loop) → Sized (at .loop .rack)
-sized at = w-sized (walk (begin at)) (at .loop .inv) (size-is at)
+sized at = w-sized (walk (begin at)) (at .loop .inv .0)
 
-size-requires : tie.Need-size-requires Inv-loop μ-loop
-size-requires c κs = held-sized (c .before .before .pre .0)
+some : (c : tie.Then1 Inv-loop μ-loop) → 0 < c .before .before .loop .at .rest
+some c = omega (arith, c .if1 .taken)
 
-next-owned-requires : tie.Need-next-owned-requires Inv-loop μ-loop
-next-owned-requires c κs = let d = c .before .before .before .before in (held-sized (d .pre .0), (u-small (walk d), omega arith))
+-- what holds in a turn
+place : (c : tie.After-place Inv-loop μ-loop) → c .place .result ≡ reached (turn c .loop .at)
+place c = w-reached (walk (begin (turn c))) (turn c .loop .inv .0) (some (c .before)) (c .place .ensures)
+
+small : (c : tie.After-place Inv-loop μ-loop) → c .place .result < 256
+small c = w-small (walk (begin (turn c))) (turn c .loop .inv .0) (some (c .before)) (c .place .ensures)
+
+owned : (c : tie.After-place Inv-loop μ-loop) → T (state (turn c) .owns (begin (turn c) .args .v) (c .place .result))
+owned c = w-owned (walk (begin (turn c))) (turn c .loop .inv .0) (some (c .before)) (c .place .ensures)
+
+-- the count that is put in
+raised : (c : tie.After-phi Inv-loop μ-loop)
+    → let p = c .before .before in
+    let a = begin (turn p) .args in c .phi .result + 1 ≡ raisedCounts (state (turn p)) (a .i) (a .v) (p .place .result) (a .i)
+raised c =
+    let p = c .before .before in
+    let a = begin (turn p) .args in
+    let l = turn p .loop in
+    raised-is (state (turn p)) (a .i) (a .v) (l .rack) (l .at) (l .inv .0) (p .place .result) (c .phi .result) (place p) (small p) (level (turn p))
+    (owned p) (c .phi .ensures)
+
+turned : (c : tie.After-set-phi Inv-loop μ-loop)
+    → let p = c .before .before .before .before in
+    let at = turn p in
+    let a = begin at .args in
+    let w = p .place .result in Counted (state at) (upd (at .loop .inv .0 .counts) w (raisedCounts (state at) (a .i) (a .v) w)) (c .set-phi .last .0)
+turned c =
+    let got = c .before .before in
+    let p = got .before .before in
+    let a = begin (turn p) .args in
+    let l = turn p .loop in
+    raised-turn (state (turn p)) (a .i) (a .v) (l .rack) (l .at) (l .inv .0) (p .place .result) (c .set-phi .last .0) (got .phi .result) (place p)
+    (small p) (level (turn p)) (raised got) (c .set-phi .ensures)
+
+-- after either branch `low` speaks of w too
+lows : (c : tie.After-next Inv-loop μ-loop)
+    → let at = turn (c .before .before .before .before .before .before .before .before .before) in
+    let a = begin at .args in Says (c .before .before .if2 .low) (LowTo (state at) (a .i) (a .v) (reached (c .next .result)))
+lows c =
+    let put = c .before .before .before .before .before in
+    let got = put .before .before in
+    let p = got .before .before in
+    let at = turn p in
+    let a = begin at .args in
+    let w = p .place .result in
+    let bar = at .before .before .before .threshold .ensures in
+    let r = raised got in
+    let next = came-next (walk (begin at)) (at .loop .inv .0) (some (p .before)) (p .place .ensures) (turned put) (c .next .ensures) in
+    ⊎-elim
+    (λ k. says-is (k .1) (low-no (state at) (a .i) (a .v) (reached (at .loop .at)) w (place p) (at .loop .inv .1) next (owned p)
+    (omega (arith, k .0 .taken))))
+    (λ k. says-is (k .1) (low-yes (state at) (a .i) (a .v) (reached (at .loop .at)) w (place p) (at .loop .inv .1) next
+    (omega (arith, k .0 .left))))
+    (c .before .before .if2 .came)
+
+threshold-requires : tie.Need-threshold-requires Inv-loop μ-loop
+threshold-requires c κs = omega arith
+
+first-requires : tie.Need-first-requires Inv-loop μ-loop
+first-requires c κs = let d = c .before .before .before in (held-sized (d .pre .0), u-small (walk d))
 
 loop-holds : tie.Need-loop-holds Inv-loop μ-loop
-loop-holds c = row-starts (walk (c .before .before .before .before .before)) (c .next-owned .ensures)
+loop-holds c =
+    let d = c .before .before .before .before in
+    let a = d .args in
+    (row-starts (walk d) (c .first .ensures), low-start (read (a .rack .now)) (a .i) (a .v) (came-first (walk d) (c .first .ensures)))
+
+place-requires : tie.Need-place-requires Inv-loop μ-loop
+place-requires c κs = (some c, c .before .before .loop .inv .0 .here (some c) .inside)
 
 phi-requires : tie.Need-phi-requires Inv-loop μ-loop
-phi-requires c κs = let t = c .before in (sized (t .before), (small t, level (t .before)))
+phi-requires c κs = let p = c .before in (sized (turn p), (small p, level (turn p)))
 
-add-set-phi : tie.Need-add-set-phi Inv-loop μ-loop
-add-set-phi c =
-    let t = c .before .before .before in
-    let d = begin (t .before) in
+add-c : tie.Need-add-c Inv-loop μ-loop
+add-c c =
+    let p = c .before .before in
+    let d = begin (turn p) in
     let a = d .args in
-    let l = t .before .loop in
-    let s = read (a .rack .now) in
-    omega (
-      arith,
-      c .before .phi .ensures,
-      counted-phi s (l .inv .counts) (l .rack) (l .inv .is) (l .w) (a .i) (small t) (level (t .before)),
-      l .inv .left (l .w) (a .i) (omega arith),
-      raised-fits s (d .pre .0 .proper) (a .i) (a .v) (l .w) (d .pre .1 .0 .0) (d .pre .1 .0 .1) (d .pre .1 .1) (owned t),
-    )
+    let fits = raised-fits (state (turn p)) (d .pre .0 .proper) (a .i) (a .v) (p .place .result) (d .pre .1 .0 .0) (d .pre .1 .0 .1) (d .pre .1 .1) in
+    omega (arith, raised c, fits (owned p))
 
 set-phi-requires : tie.Need-set-phi-requires Inv-loop μ-loop
-set-phi-requires c κs = let t = c .before .before .before in (sized (t .before), (small t, level (t .before)))
+set-phi-requires c κs = let p = c .before .before .before in (sized (turn p), (small p, level (turn p)))
 
-add-next-owned : tie.Need-add-next-owned Inv-loop μ-loop
-add-next-owned c = omega (arith, small (c .before .before .before .before .before .before .before))
-
-next-owned-requires-2 : tie.Need-next-owned-requires-2 Inv-loop μ-loop
-next-owned-requires-2 c κs =
-    let t = c .before .before .before .before .before .before .before in (
-      omega (arith, c .before .before .before .set-phi .kept .0, sized (t .before)),
-      (u-small (walk (begin (t .before))), omega (arith, small t)),
+next-requires : tie.Need-next-requires Inv-loop μ-loop
+next-requires c κs =
+    let put = c .before .before .before .before in
+    let p = put .before .before .before .before in (
+      counted-sized (state (turn p)) _ (put .set-phi .last .0) (turned put),
+      (u-small (walk (begin (turn p))), (some (p .before), turn p .loop .inv .0 .here (some (p .before)) .inside)),
     )
 
 loop-less : tie.Need-loop-less Inv-loop μ-loop
-loop-less c = omega (arith, c .next-owned2 .ensures .after)
+loop-less c =
+    let p = c .before .before .before .before .before .before .before .before .before in
+    let here = turn p .loop .inv .0 .here (some (p .before)) in
+    omega (arith, small p, place p, further-less (some (p .before)) here (c .next .ensures))
 
 loop-again : tie.Need-loop-again Inv-loop μ-loop
 loop-again c =
-    let t = c .before .before .before .before .before .before .before .before in
-    let a = begin (t .before) .args in
-    let l = t .before .loop in
-    let put = c .before .before .before .before .set-phi in
-    let got = c .before .before .before .before .before .before .phi in
-    let e = raised-turn (read (a .rack .now)) (a .i) (a .v) (l .rack) (l .w) (l .inv) (put .last .0) (got .result) (small t)
-    (level (t .before)) (owned t) (got .ensures) (put .ensures) in
-    row-goes-on (walk (begin (t .before))) (l .inv) (size-is (t .before)) e (c .next-owned2 .ensures)
+    let put = c .before .before .before .before .before in
+    let p = put .before .before .before .before in
+    (row-goes-on (walk (begin (turn p))) (turn p .loop .inv .0) (some (p .before)) (p .place .ensures) (turned put) (c .next .ensures), lows c)
 
 same-length : tie.Need-same-length Inv-loop μ-loop
-same-length c = let at = c .before in same-size (walk (begin at)) (at .loop .inv) (size-is at)
+same-length c = let at = c .before .before in same-size (walk (begin at)) (at .loop .inv .0)
 
 returns : tie.Need-returns Inv-loop μ-loop
-returns c = let at = c .before in row-ends (walk (begin at)) (at .loop .inv) (size-is at) (c .loop-test .left)
+returns c =
+    let at = c .before .before in
+    let d = begin at in
+    let l = at .loop in
+    let low = low-end (state at) (d .args .i) (d .args .v) (d .pre .0 .proper) (l .at) (c .if1 .left) (l .inv .1) in
+    (row-ends (walk d) (l .inv .0) (c .if1 .left), low)
 
 pub raise-counts-spec : {M : Type 1} → statement M
 raise-counts-spec =
@@ -115,14 +176,14 @@ raise-counts-spec =
     (tie.spec
     Inv-loop
     μ-loop
-    size-requires
-    next-owned-requires
+    threshold-requires
+    first-requires
     loop-holds
+    place-requires
     phi-requires
-    add-set-phi
+    add-c
     set-phi-requires
-    add-next-owned
-    next-owned-requires-2
+    next-requires
     loop-less
     loop-again
     same-length

@@ -22,9 +22,8 @@ cast-nth-owned c = search needs
 -- there is a vertex to choose
 some : (c : tie.Start) → 0 < c .args .k
 some c =
-    let a = c .args in
     let p = c .pre in
-    omega (arith, p .1 .3, row-degree (a .rack .now) (p .0) (a .i) (a .u) (p .1 .0) (p .1 .1), p .1 .2)
+    omega (arith, p .1 .3, p .1 .2)
 
 rem-nth-owned : tie.Need-rem-nth-owned
 rem-nth-owned c = some (c .before .before .before .before)
@@ -32,8 +31,10 @@ rem-nth-owned c = some (c .before .before .before .before)
 nth-owned-requires : tie.Need-nth-owned-requires
 nth-owned-requires c κs =
     let s = c .before .before .before .before in
+    let a = s .args in
     let p = s .pre in
-    (held-sized (p .0), (held-small (p .0) _ (p .1 .0), subst (λ (k : ℕ). c .nth-word .result % s .args .k < k) (p .1 .3) (mod-lt _ (some s))))
+    let size = row-degree (a .rack .now) (p .0) (a .i) (a .u) (p .1 .0) (p .1 .1) in
+    (held-sized (p .0), (held-small (p .0) _ (p .1 .0), omega (arith, p .1 .3, size, mod-lt (c .nth-word .result) (some s))))
 
 returns : tie.Need-returns
 returns c =

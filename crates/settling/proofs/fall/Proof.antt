@@ -2,9 +2,10 @@
 use Prim.Native.Nat.{_≤_}
 use native.Mathlib.Omega.{arith}
 use borrow.Author.Needs.{needs}
+use Rattle.model.proofs.Tests.{true-T}
 use Rattle.settling.specs.Settling.{takeLimit}
 use Rattle.settling.proofs.Holding.{but-place, holds-as}
-use Rattle.settling.proofs.Takes.{Fallen, fallen-scans, fallen-left, fallen-alone}
+use Rattle.settling.proofs.Takes.{Fallen, fallen-scans, fallen-left, fallen-low}
 use Rattle.settling.proofs.fall.Statement.{statement}
 use Rattle.settling.proofs.fall.Tie as tie
 
@@ -45,7 +46,7 @@ fallen c =
       holds = holds-as _ (c .before .fell .ensures .2) (s .pre .1 .1 .0);
       joined = c .rejoin .ensures;
       long = c .rejoin .kept .0;
-      bytes = f .fall .ensures;
+      bytes = f .fall .ensures .0;
     }
 
 same-length : tie.Need-same-length
@@ -62,7 +63,8 @@ returns : tie.Need-returns
 returns c =
     let r = c .before .before .before in
     let s = start (down (r .before)) in
-    fallen-alone (fallen r) (s .args .tally) (r .before .fell .ensures) (s .args .words .now) (c .if1 .taken) (few r)
+    fallen-low (fallen r) (s .args .tally) (r .before .fell .ensures) (s .args .words .now)
+    (down (r .before) .fall .ensures .1 .fact (true-T (c .if1 .taken))) (few r)
 
 scan-requires : tie.Need-scan-requires
 scan-requires c κs = let r = c .before .before .before .before .before in fallen-scans (fallen r) (few r)

@@ -3,8 +3,6 @@ use Prim.Native.Nat.{_≤_, _<_}
 use native.Mathlib.Omega.{arith}
 use borrow.Author.Needs.{needs}
 use Rattle.model.specs.State.{base}
-use Rattle.layout.specs.Rows.{degreeAt}
-use Rattle.moves.proofs.Held.{held-sized, held-small}
 use Rattle.settling.proofs.Requeuing.{room-as}
 use Rattle.settling.proofs.Takes.{Handed, handed-held, handed-waits, handed-falls, handed-draws, taken-draws, taken-falls}
 use Rattle.settling.proofs.take.Statement.{statement}
@@ -20,7 +18,8 @@ start c = c .before .before .before .before .before
 handed : (c : tie.After-hand-over) →
     let l = left c in
     let a = start l .args in
-    Handed (a .rack .now) (a .queue .now) (a .tally) (a .i) (a .v) (c .hand-over .last .0) (l .leave .last .0) (l .leave .result)
+    Handed (a .rack .now) (a .queue .now) (a .tally) (a .i) (a .v) (c .hand-over .result .below) (c .hand-over .last .0) (l .leave .last .0)
+    (l .leave .result)
 handed c =
     let l = left c in
     let s = start l in
@@ -34,7 +33,8 @@ handed c =
       holds = s .pre .1 .1 .0;
       left = l .leave .ensures;
       long = l .leave .kept .0;
-      bytes = c .hand-over .ensures;
+      bytes = c .hand-over .ensures .0;
+      size = c .hand-over .ensures .1 .1;
     }
 
 leave-requires : tie.Need-leave-requires
@@ -44,17 +44,16 @@ leave-requires c κs =
     let v = p .1 .0 in
     (h .within, (h .lists .once, h .lists .whole _ (v .0, (v .1, omega (arith, v .2)))))
 
--- what the test says of the row
+-- the hand-over, seen from the test
 abbrev after : tie.After-threshold → tie.After-hand-over
-after c = c .before .before .before .before .before
+after c = c .before .before .before
 
-enough : (c : tie.Then1)
-    → base .thr (start (left (after (c .before))) .args .i) ≤ degreeAt (after (c .before) .hand-over .last .0) (start (left (after (c .before))) .args .v)
-enough c = omega (arith, c .if1 .taken, c .before .before .degree .ensures, c .before .threshold .ensures)
+-- what the test says of the vertices below
+enough : (c : tie.Then1) → let h = after (c .before) in base .thr (start (left h) .args .i) ≤ h .hand-over .result .below
+enough c = omega (arith, c .if1 .taken, c .before .threshold .ensures)
 
-few : (c : tie.Else1)
-    → degreeAt (after (c .before) .hand-over .last .0) (start (left (after (c .before))) .args .v) < base .thr (start (left (after (c .before))) .args .i)
-few c = omega (arith, c .if1 .left, c .before .before .degree .ensures, c .before .threshold .ensures)
+few : (c : tie.Else1) → let h = after (c .before) in h .hand-over .result .below < base .thr (start (left h) .args .i)
+few c = omega (arith, c .if1 .left, c .before .threshold .ensures)
 
 hand-over-requires : tie.Need-hand-over-requires
 hand-over-requires c κs = search needs
@@ -65,15 +64,11 @@ threshold-requires c κs = search needs
 cast-if1 : tie.Need-cast-if1
 cast-if1 c = search needs
 
-degree-requires : tie.Need-degree-requires
-degree-requires c κs = let a = handed (c .before .before .before) in (held-sized (handed-held a .0), held-small (a .held) _ (a .inside))
-
 draw-requires : tie.Need-draw-requires
 draw-requires c κs =
     let t = c .before .before in
-    let d = t .before .before .degree in
     let s = start (left (after (t .before))) in
-    handed-draws (handed (after (t .before))) (d .result) (d .ensures) (enough t) (omega (arith, s .pre .1 .1 .1 .draws))
+    handed-draws (handed (after (t .before))) (enough t) (omega (arith, s .pre .1 .1 .1 .draws))
 
 same-length : tie.Need-same-length
 same-length c = search needs
@@ -91,9 +86,8 @@ fall-requires : tie.Need-fall-requires
 fall-requires c κs =
     let e = c .before .before in
     let a = handed (after (e .before)) in
-    let d = e .before .before .degree in
     let s = start (left (after (e .before))) in
-    (handed-held a, (handed-falls a (d .result) (d .ensures), (handed-waits a, room-as (a .left) (s .pre .1 .1 .1))))
+    (handed-held a, (handed-falls a, (handed-waits a, room-as (a .left) (s .pre .1 .1 .1))))
 
 same-length-3 : tie.Need-same-length-3
 same-length-3 c = search needs
@@ -113,7 +107,6 @@ take-spec =
     (tie.spec
     leave-requires
     hand-over-requires
-    degree-requires
     threshold-requires
     cast-if1
     draw-requires
