@@ -38,12 +38,40 @@ fn fresh(n: usize) -> RackBytes {
     rack
 }
 
-/// A rack of 256 vertices with so many edges, added in random order.
-pub fn with_edges(edges: usize) -> RackBytes {
+/// How many vertices and edges a rack has.
+#[derive(Clone, Copy)]
+pub struct Size {
+    pub n: usize,
+    pub edges: usize,
+}
+
+impl Size {
+    /// 256 vertices with so many edges.
+    pub fn of_256(edges: usize) -> Size {
+        Size { n: 256, edges }
+    }
+
+    /// n vertices with half of all edges.
+    pub fn half(n: usize) -> Size {
+        let edges = n * (n - 1) / 4;
+        Size { n, edges }
+    }
+
+    /// n vertices with all edges.
+    pub fn full(n: usize) -> Size {
+        let edges = n * (n - 1) / 2;
+        Size { n, edges }
+    }
+}
+
+/// A rack of this size, its edges added in random order.
+pub fn with_edges(size: Size) -> RackBytes {
+    let Size { n, edges } = size;
     let mut random = Random(edges as u64);
-    let mut all: Vec<(u32, u32)> = (0..256).flat_map(|v| (0..v).map(move |w| (v, w))).collect();
+    let vertices = 0..n as u32;
+    let mut all: Vec<(u32, u32)> = vertices.flat_map(|v| (0..v).map(move |w| (v, w))).collect();
     let words: Vec<u32> = (0..128).map(|_| random.bits() as u32).collect();
-    let mut rack = fresh(256);
+    let mut rack = fresh(n);
     for last in (all.len() - edges..all.len()).rev() {
         let place = random.below(last + 1);
         all.swap(last, place);
@@ -60,10 +88,10 @@ pub struct Parted {
 }
 
 impl Parted {
-    /// The pairs of 256 vertices with so many edges.
-    pub fn of(edges: usize) -> Parted {
-        let rack = with_edges(edges);
-        let mut random = Random(edges as u64);
+    /// The pairs of a rack of this size.
+    pub fn of(size: Size) -> Parted {
+        let rack = with_edges(size);
+        let mut random = Random(size.edges as u64);
         let words = (0..128).map(|_| random.bits() as u32).collect();
         let drop = |a: usize| {
             let mate = mate(&rack, a);
@@ -76,7 +104,7 @@ impl Parted {
             (mate < 256).then_some((rack, change))
         };
         Parted {
-            racks: (0..256).filter_map(drop).collect(),
+            racks: (0..size.n).filter_map(drop).collect(),
             words,
         }
     }

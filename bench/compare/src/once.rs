@@ -1,26 +1,38 @@
 //! One kind of call, so many times, on one side alone: for counting its
 //! instructions.
+//!
+//! To copy or clear bytes takes libc a few instructions more or less by where
+//! they lie. What would move the racks of other kinds is not inlined.
 
-use crate::cases::{with_edges, Parted, Series};
+use crate::cases::{with_edges, Parted, Series, Size};
 use crate::side::Side;
 use crate::texts::Text;
 use std::hint::black_box;
 use tuned::{RACK_BYTES, RECORD_SPACE};
 
 /// Makes the calls and gives how many calls, or changes of runs, they were.
-/// The size is the edges of a rack of 256 vertices for an audit or a parted
-/// pair, or else the vertices.
+/// The size is the edges of a rack of 256 vertices for "audit" and "parted", or
+/// else the vertices.
 pub fn once(side: Side, kind: &str, size: usize, calls: usize) -> Result<usize, String> {
     match kind {
-        "audit" => Ok(audits(side, size, calls)),
+        "audit" | "half-audit" | "full-audit" => Ok(audits(side, sized(kind, size), calls)),
         "direct" => direct(side, size, calls),
         "before" => before(side, size, calls),
-        "parted" => parted(side, size, calls),
+        "parted" | "half" | "full" => parted(side, sized(kind, size), calls),
         "series" => series(side, size, calls),
         _ => match Text::of(kind, size) {
             Some(text) => Ok(runs(side, &text, calls)),
             None => Err(format!("no such kind: {kind}")),
         },
+    }
+}
+
+/// The size of the rack for a kind of audits or drops.
+fn sized(kind: &str, size: usize) -> Size {
+    match kind {
+        "half" | "half-audit" => Size::half(size),
+        "full" | "full-audit" => Size::full(size),
+        _ => Size::of_256(size),
     }
 }
 
@@ -30,8 +42,8 @@ fn measured(calls: impl FnOnce()) {
     calls();
 }
 
-fn audits(side: Side, edges: usize, calls: usize) -> usize {
-    let rack = with_edges(edges);
+fn audits(side: Side, size: Size, calls: usize) -> usize {
+    let rack = with_edges(size);
     measured(|| {
         for _ in 0..calls {
             assert!(side.audit(black_box(&rack)), "a sound rack");
@@ -71,8 +83,8 @@ fn before(side: Side, n: usize, calls: usize) -> Result<usize, String> {
 }
 
 /// Drops of pairs, each on the same rack.
-fn parted(side: Side, edges: usize, calls: usize) -> Result<usize, String> {
-    let Parted { mut racks, words } = Parted::of(edges);
+fn parted(side: Side, size: Size, calls: usize) -> Result<usize, String> {
+    let Parted { mut racks, words } = Parted::of(size);
     if calls > racks.len() {
         return Err(format!("at most {} drops", racks.len()));
     }
@@ -84,6 +96,8 @@ fn parted(side: Side, edges: usize, calls: usize) -> Result<usize, String> {
     Ok(calls)
 }
 
+/// The changes of a series, one after the other on one rack.
+#[inline(never)]
 fn series(side: Side, n: usize, calls: usize) -> Result<usize, String> {
     let series = Series::of(n);
     if calls > series.changes.len() {

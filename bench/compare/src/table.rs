@@ -1,6 +1,6 @@
 //! The table of times: both sides in one run, on the same racks.
 
-use crate::cases::{with_edges, Series, DENSEST};
+use crate::cases::{with_edges, Parted, Series, Size, DENSEST};
 use crate::side::Side;
 use crate::texts::{Text, TEXTS};
 use std::hint::black_box;
@@ -24,15 +24,18 @@ const SIDES: [Side; 3] = [Side::Core, Side::Tuned, Side::Bare];
 
 pub fn print() {
     let heads = ["core", "tuned", "ratio", "bare"].map(|head| format!("{head:>10}"));
-    println!("{:26}{}", "nanoseconds a call", heads.concat());
+    println!("{:32}{}", "nanoseconds a call", heads.concat());
     for edges in [0, 256, 1_000, 2_000, 4_000, 16_000, DENSEST] {
         let name = format!("audit, 256 / {edges} links");
-        line(&name, audits(&with_edges(edges)));
+        line(&name, audits(&with_edges(Size::of_256(edges))));
     }
     for n in [16, 64, 256] {
         let series = Series::of(n);
         line(&format!("change, n = {n}"), direct(&series));
         line(&format!("change in series, n = {n}"), long(&series));
+    }
+    for n in [64, 256] {
+        line(&format!("parted, {n} / half of the links"), drops(n));
     }
     for (kind, n) in TEXTS {
         let text = Text::of(kind, n).expect("a kind of text");
@@ -42,7 +45,7 @@ pub fn print() {
         };
         line(&name, runs(&text));
     }
-    println!("bare: the tuned change without its audit; a run audits no change");
+    println!("bare: the tuned change without its audit; a run audits no change; parted: the drop of a pair");
     println!("refused: a run in which four of five changes are refused; words: one with 128 words of ten digits a change;");
     println!("line: a whole run of a text of one line");
     if cfg!(not(target_feature = "popcnt")) {
@@ -59,7 +62,7 @@ fn line(name: &str, times: Times) {
     };
     let [core, tuned, ratio, bare] =
         [(core, 0), (tuned, 0), (ratio, 2), (bare, 0)].map(|(time, places)| figure(time, places));
-    println!("{name:26}{core}{tuned}{ratio}{bare}");
+    println!("{name:32}{core}{tuned}{ratio}{bare}");
 }
 
 /// The best time of each side.
@@ -104,6 +107,22 @@ fn direct(series: &Series) -> Times {
             for (rack, place) in &mut racks {
                 let change = &series.changes[*place];
                 black_box(side.change(rack, change, series.words(change)));
+            }
+        });
+        Some(time)
+    })
+}
+
+/// One drop of each pair of n vertices with half of all edges. It is not inlined,
+/// so that it leaves the racks of `once` in their place.
+#[inline(never)]
+fn drops(n: usize) -> Times {
+    let parted = Parted::of(Size::half(n));
+    best(|side| {
+        let mut racks = parted.racks.clone();
+        let time = timed(racks.len(), || {
+            for (rack, change) in &mut racks {
+                black_box(side.change(rack, change, &parted.words));
             }
         });
         Some(time)

@@ -7,7 +7,8 @@
 //! the search for them ends early or does not begin.
 //!
 //! What a move needs only at times is not inlined, so that the rest keeps more
-//! in registers.
+//! in registers. With the feature `apart` rises are not inlined either, so that
+//! a tool can count takings without them.
 
 use crate::bits::{self, Row};
 use crate::layout::{
@@ -66,6 +67,7 @@ impl<W: Words> Play<'_, W> {
         self.queues.leave(self.rack, v, rank);
     }
 
+    #[cfg_attr(feature = "apart", inline(never))]
     pub fn rise_and_draw(&mut self, u: u8, to: u8) {
         self.leave(u);
         let candidates = self.rise(u, to);
@@ -75,6 +77,7 @@ impl<W: Words> Play<'_, W> {
     /// Vertex u rises to a rank and becomes the owner of its edges to all
     /// lower ones; the answer is how many these are. Each such neighbour no
     /// longer counts u at the levels below the rank.
+    #[cfg_attr(feature = "apart", inline(never))]
     fn rise(&mut self, u: u8, to: u8) -> u32 {
         let (from, counts) = (rank(self.rack, u), phi(self.rack, u));
         let below = (counts >> (8 * (to - 1))) & 255;
