@@ -49,7 +49,7 @@ fn walk_word(rack: &[u8], tally: &mut [u16], v: usize, r: usize, k: usize) -> bo
     ensures { λ a. ⌜ Says a (RightBelow (now (rack .entry)) v (64 * k + 64)) ⌝ }
     ensures { λ a. ⌜ (T a → Walked (now (rack .entry)) (now (tally .exit)) v (64 * k + 64)) ⌝ }
 {
-    let mut x = layout::word(rack, v, k);
+    let mut x = layout::words::word(rack, v, k);
     while x != 0 {
         let w = 64 * k + u64::trailing_zeros(x) as usize;
         if !right(rack, v, r, w) {
@@ -91,7 +91,7 @@ fn once_word(rack: &[u8], v: usize, k: usize) -> bool
     requires { ⌜ OnceBelow (now rack) v (64 * k) ⌝ }
     ensures { λ a. ⌜ Says a (OnceBelow (now (rack .entry)) v (64 * k + 64)) ⌝ }
 {
-    let mut x = layout::word(rack, v, k);
+    let mut x = layout::words::word(rack, v, k);
     while x != 0 {
         let w = 64 * k + u64::trailing_zeros(x) as usize;
         if layout::owns(rack, w, v) {

@@ -10,7 +10,6 @@ ghost use Rattle.model.specs.Counting.{sum, count};
 ghost use Rattle.model.specs.Bytes.{most as mostOf, sizeAt, edgesAt, rankAt, mateAt, phiAt, ownsAt, write};
 ghost use Rattle.model.specs.Calls.{sized as sizedOf};
 ghost use Rattle.model.proofs.Facts.{Says};
-ghost use Rattle.bitset.specs.Words.{Rest};
 ghost use Rattle.layout.specs.Setters.{Sized, setEdges, setRank, setMate, setPhi, own as owned, disown as disowned, blanked};
 ghost use Rattle.layout.specs.Rows.{degreeAt, NthOwned, NextOwned};
 
@@ -232,16 +231,6 @@ fn next_owned(rack: &[u8], v: usize, from: usize) -> usize
 {
     let at = 1800 + 32 * v;
     bitset::next(&rack[at..at + 32], from)
-}
-
-// 64 places of the row of v, from 64 k on, as one word.
-pub fn word(rack: &[u8], v: usize, k: usize) -> u64
-    requires { ⌜ Sized (now rack) ⌝ }
-    requires { ⌜ v < mostOf ⌝ }
-    requires { ⌜ 64 * k < mostOf ⌝ }
-    ensures { λ r. ⌜ Rest (λ j. ownsAt (now (rack .entry)) v (64 * k + j)) 0 r ⌝ }
-{
-    bitset::word(rack, 1800 + 32 * v + 8 * k)
 }
 
 // Whether v owns no edge to a vertex from `from` on.

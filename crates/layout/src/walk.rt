@@ -31,7 +31,7 @@ fn from_word(rack: &[u8], v: usize, k: usize) -> Cursor
 {
     let mut word = k;
     while 64 * word < MOST {
-        let rest = crate::word(rack, v, word);
+        let rest = crate::words::word(rack, v, word);
         if rest != 0 {
             return Cursor { word, rest };
         }

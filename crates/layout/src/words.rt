@@ -1,10 +1,21 @@
-// Whole words of a vertex's row, written: 64 places at once.
+// Whole words of a vertex's row: 64 places at once.
 ghost use mathlib.Core.Path.{_≡_};
-ghost use Prim.Native.Nat.{_<_, _*_};
-ghost use Rattle.model.specs.Bytes.{most as mostOf};
+ghost use Prim.Native.Nat.{_+_, _<_, _*_};
+ghost use Rattle.model.specs.Bytes.{most as mostOf, ownsAt};
+ghost use Rattle.bitset.specs.Words.{Rest};
 ghost use Rattle.layout.specs.Setters.{Sized, setWord};
 
-// The 64 places of the row of v from 64 k on become the bits of x.
+// 64 places of the row of v, from 64 k on, as one word.
+pub fn word(rack: &[u8], v: usize, k: usize) -> u64
+    requires { ⌜ Sized (now rack) ⌝ }
+    requires { ⌜ v < mostOf ⌝ }
+    requires { ⌜ 64 * k < mostOf ⌝ }
+    ensures { λ r. ⌜ Rest (λ j. ownsAt (now (rack .entry)) v (64 * k + j)) 0 r ⌝ }
+{
+    bitset::word(rack, 1800 + 32 * v + 8 * k)
+}
+
+// Sets the 64 places of the row of v from 64 k on to the bits of x.
 pub fn set_word(rack: &mut [u8], v: usize, k: usize, x: u64)
     requires { ⌜ Sized (now rack) ⌝ }
     requires { ⌜ v < mostOf ⌝ }

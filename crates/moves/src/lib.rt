@@ -88,7 +88,7 @@ fn hand_word(rack: &mut [u8], v: usize, i: usize, k: usize, split: Split) -> Spl
     let mut handed = split.handed;
     let mut below = split.below;
     let mut kept: u64 = 0;
-    let mut x = layout::word(rack, v, k);
+    let mut x = layout::words::word(rack, v, k);
     while x != 0 {
         let w = layout::walk::place(k, x);
         let rest = x & (x - 1);

@@ -1,8 +1,8 @@
--- `layout::word` meets its contract: the bytes of the row are a word of the whole buffer. Assumes nothing.
+-- `layout::words::word` meets its contract: the bytes of the row are a word of the whole buffer. Assumes nothing.
 use Rattle.layout.proofs.Spans.{word-owns}
 use borrow.Author.Needs.{needs}
-use Rattle.layout.proofs.word.Statement.{statement}
-use Rattle.layout.proofs.word.Tie as tie
+use Rattle.layout.proofs.words.word.Statement.{statement}
+use Rattle.layout.proofs.words.word.Tie as tie
 
 mul-word : tie.Need-mul-word
 mul-word c = search needs
