@@ -3,13 +3,16 @@
 -- Assumes nothing.
 use mathlib.Core.Path.{_≡_, refl, sym, ap, _∙_, subst}
 use mathlib.Core.Logic.{_⊎_, inl, inr}
-use mathlib.Core.Bool.{Bool}
+use mathlib.Core.Bool.{Bool, _&&_}
+use mathlib.Core.List.{[], _∷_}
 use Prim.Native.Nat.{ℕ, suc, _≤_, _<_}
 use native.Mathlib.Omega.{arith}
-use lib.Dec.{T}
+use lib.Dec.{T, eqb, leb}
+use lib.ListN.{getD}
+use Rattle.model.specs.Counting.{sum, count}
 use Rattle.model.specs.State.{Rules, State, base, edge, near, below}
 use Rattle.model.specs.Valid.{Valid}
-use Rattle.model.specs.Moves.{Run, found, handOver, pick}
+use Rattle.model.specs.Moves.{Run, found, ownedBy, handOver, pick}
 use Rattle.model.specs.Change.{Change, number}
 use Rattle.model.proofs.Tests.{bool-ext, le?, and-intro, and-left, and-right}
 use Rattle.model.proofs.Counting.{count-parts}
@@ -102,3 +105,11 @@ taken-parts R pos s H c z r t S way i v e =
     let f : Foremost (s .n) (marks (t .state)) (t .queues) i v =
     subst (Served (s .n) (marks (t .state)) (t .queues)) e (who-is-taken R pos s H c z r t S way) in
     fits-parts (rejoin (setting R s) (W .there)) (W .simple) i v (t .state) (W .good .fits) (f .waits .1 .1)
+
+-- ---- A case, computed: 0 stands at level 1 and owns three edges, to 1 at its own level, and to 2 and 3 below. One goes, and two stay.
+unfoldable pub trio : State
+trio = record { n = 4; rank = λ v. getD (2 ∷ 2 ∷ 1 ∷ 0 ∷ []) v 0; mate = λ v. v; owns = λ v w. eqb v 0 && (leb 1 w && leb w 3) }
+
+pub trio-parts : (count (trio .owns 0) 4 ≡ 3) × (count (handedOn trio (handOver 1 0 trio) 0) 4 ≡ 1) × (below (handOver 1 0 trio) 0 1 ≡ 2)
+unfolding trio count sum handedOn handOver ownedBy below near edge
+trio-parts = (refl, refl, refl)
