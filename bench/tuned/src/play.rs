@@ -7,8 +7,8 @@
 //! the search for them ends early or does not begin.
 //!
 //! What a move needs only at times is not inlined, so that the rest keeps more
-//! in registers. With the feature `apart` rises are not inlined either, so that
-//! a tool can count takings without them.
+//! in registers. With the feature `apart` rises, and the partings before them, are
+//! not inlined either, so that a tool can count takings without them.
 
 use crate::bits::{self, Row};
 use crate::layout::{
@@ -48,6 +48,7 @@ impl<W: Words> Play<'_, W> {
 
     /// Before a vertex rises it leaves its mate, who then pends as the last of
     /// that rank; one that pends itself no longer does.
+    #[cfg_attr(feature = "apart", inline(never))]
     fn leave(&mut self, v: u8) {
         let rank = rank(self.rack, v);
         if rank == 0 {
