@@ -22,17 +22,17 @@ use Rattle.bitset.specs.Words.{Rest, Got}
 use Rattle.bitset.proofs.Words.{First, rest-first, rest-end, got-none, got-skip, got-more}
 use Rattle.layout.specs.Setters.{Sized, own, setWord}
 use Rattle.moves.specs.Proper.{Proper}
-use Rattle.moves.specs.Handing.{handed, kept, inWord, handedIn}
+use Rattle.moves.specs.Handing.{sameLevel, otherLevel, inWord, handedIn}
 use Rattle.moves.proofs.Edges.{edge-of, turned-edge}
 use Rattle.moves.proofs.Owning.{ownersOf, owners-same, owners-write}
-use Rattle.moves.proofs.Handing.{handed-of, handed-is, kept-of, kept-is, going, going-of, going-is, gains, gains-ext, gains-none, own-gains, word-gone}
+use Rattle.moves.proofs.Handing.{same-of, same-is, other-of, other-is, going, going-of, going-is, gains, gains-ext, gains-none, own-gains, word-gone}
 
 -- the edges of word k that go, and those that stay, by their places in the word
 abbrev pub goes : State → ℕ → ℕ → ℕ → ℕ → Bool
-goes s i v k j = handed s i v (64 * k + j)
+goes s i v k j = sameLevel s i v (64 * k + j)
 
 abbrev pub stays : State → ℕ → ℕ → ℕ → ℕ → Bool
-stays s i v k j = kept s i v (64 * k + j)
+stays s i v k j = otherLevel s i v (64 * k + j)
 
 -- the first m places of the word are done: h and b are the numbers, g what was gathered
 pub record Done (s : State) (i v k h₀ b₀ : ℕ) (bs : List ℕ) (h b g m : ℕ) : Type 0 where
@@ -59,12 +59,12 @@ module _ {s : State} {i v k h₀ b₀ : ℕ} {bs : List ℕ} {h b g m : ℕ} (d 
   -- the same edges go before place t, where v owns none between
   done-skip : (t : ℕ) → m ≤ t → ((j : ℕ) → m ≤ j → j < t → T (s .owns v (64 * k + j)) → ⊥) → Done s i v k h₀ b₀ bs h b g t
   done-skip t l none =
-      let no-go : (j : ℕ) → m ≤ j → j < t → T (goes s i v k j) → ⊥ = λ j a c u. none j a c (handed-is s i v (64 * k + j) u .0) in
-      let no-stay : (j : ℕ) → m ≤ j → j < t → T (stays s i v k j) → ⊥ = λ j a c u. none j a c (kept-is s i v (64 * k + j) u .0) in
-      let before : (x : ℕ) → T (handed s i v x) → 64 * k ≤ x → x < 64 * k + t → x < 64 * k + m = λ x u a c. elim (le? (64 * k + m) x) [
+      let no-go : (j : ℕ) → m ≤ j → j < t → T (goes s i v k j) → ⊥ = λ j a c u. none j a c (same-is s i v (64 * k + j) u .0) in
+      let no-stay : (j : ℕ) → m ≤ j → j < t → T (stays s i v k j) → ⊥ = λ j a c u. none j a c (other-is s i v (64 * k + j) u .0) in
+      let before : (x : ℕ) → T (sameLevel s i v x) → 64 * k ≤ x → x < 64 * k + t → x < 64 * k + m = λ x u a c. elim (le? (64 * k + m) x) [
         | inl n ↦
             let e : x ≡ 64 * k + (x - 64 * k) = omega arith in
-            absurd (none (x - 64 * k) (omega arith) (omega arith) (subst (λ (y : ℕ). T (s .owns v y)) e (handed-is s i v x u .0)))
+            absurd (none (x - 64 * k) (omega arith) (omega arith) (subst (λ (y : ℕ). T (s .owns v y)) e (same-is s i v x u .0)))
         | inr n ↦ n
       ] in
       record {
@@ -82,8 +82,8 @@ module _ {s : State} {i v k h₀ b₀ : ℕ} {bs : List ℕ} {h b g t : ℕ} (d 
       → {h′ b′ : ℕ} → h′ ≡ suc h → b′ ≡ b → Done s i v k h₀ b₀ cs h′ b′ g (suc t)
   done-yes l c e {cs} q more same =
       let w : ℕ = 64 * k + t in
-      let goes-now : T (handed s i v w) = handed-of s i v w owned e in
-      let no-stay : T (stays s i v k t) → ⊥ = λ u. kept-is s i v w u .1 e in
+      let goes-now : T (sameLevel s i v w) = same-of s i v w owned e in
+      let no-stay : T (stays s i v k t) → ⊥ = λ u. other-is s i v w u .1 e in
       record {
         bytes = q ∙ ap (λ (x : List ℕ). own x w v) (d .bytes)
             ∙ own-gains s v w (going s i v k t) (going s i v k (suc t)) l c (going-of s i v k (suc t) w goes-now (omega arith) (omega arith))
@@ -98,13 +98,13 @@ module _ {s : State} {i v k h₀ b₀ : ℕ} {bs : List ℕ} {h b g t : ℕ} (d 
   pub done-no : s .rank (64 * k + t) ≢ suc i → {h′ b′ g′ : ℕ} → h′ ≡ h → b′ ≡ suc b → g′ ≡ g + 2 ^ t → Done s i v k h₀ b₀ bs h′ b′ g′ (suc t)
   done-no e same more q =
       let w : ℕ = 64 * k + t in
-      let stays-now : T (kept s i v w) = kept-of s i v w owned e in
-      let no-go : T (goes s i v k t) → ⊥ = λ u. e (handed-is s i v w u .1) in
+      let stays-now : T (otherLevel s i v w) = other-of s i v w owned e in
+      let no-go : T (goes s i v k t) → ⊥ = λ u. e (same-is s i v w u .1) in
       record {
         bytes = d .bytes ∙ ap (λ (o : ℕ → ℕ → Bool). image (ownersOf s o)) (gains-ext v (going s i v k t) (going s i v k (suc t)) (s .owns)
             (λ x u. let r = going-is s i v k t x u in going-of s i v k (suc t) x (r .0) (r .1) (omega (arith, r .2)))
             (λ x u. let r = going-is s i v k (suc t) x u in going-of s i v k t x (r .0) (r .1) (elim (eq? x w) [
-              | inl n ↦ absurd (no-go (subst (λ (z : ℕ). T (handed s i v z)) n (r .0)))
+              | inl n ↦ absurd (no-go (subst (λ (z : ℕ). T (sameLevel s i v z)) n (r .0)))
               | inr n ↦ omega (arith, r .2)
             ])));
         handed = omega (arith, same, d .handed, count-suc (goes s i v k) t, bit-no (goes s i v k t) no-go);
@@ -163,7 +163,7 @@ module _ {s : State} (p : Proper s) {i v k : ℕ} where
         let d = handing-done z in
         ap (λ (cs : List ℕ). setWord cs v k g) (d .bytes) ∙ word-gone s p i v k g (omega (arith, p .few)) m (d .got .fits) (d .got .same)
         ∙ owners-write s (ownedBy v (going s i v k 64) false (s .owns))
-        (λ a c. turned-edge s p v (going s i v k 64) false (λ w u. edge-of s v w (handed-is s i v w (and-left (handed s i v w) _ u) .0)) a c)
+        (λ a c. turned-edge s p v (going s i v k 64) false (λ w u. edge-of s v w (same-is s i v w (and-left (sameLevel s i v w) _ u) .0)) a c)
 
     pub handing-numbers : x ≡ 0 → (h ≡ h₀ + count (goes s i v k) 64) × (b ≡ b₀ + count (stays s i v k) 64)
     handing-numbers z = let d = handing-done z in (d .handed, d .below)

@@ -15,27 +15,27 @@ use Rattle.theory.proofs.Ownership.{out, back, rest, turned}
 use Rattle.layout.specs.Setters.{own, setWord}
 use Rattle.layout.proofs.Images.{withOwns, withWord, word-in, word-out, image-ext, own-image, setWord-image}
 use Rattle.moves.specs.Proper.{Proper}
-use Rattle.moves.specs.Handing.{handed, kept, inWord}
+use Rattle.moves.specs.Handing.{sameLevel, otherLevel, inWord}
 use Rattle.moves.proofs.Owning.{ownersOf}
 
 -- ---- which edges go, and which stay
 
 module _ (s : State) (i v : ℕ) where
-  pub handed-of : (w : ℕ) → T (s .owns v w) → s .rank w ≡ suc i → T (handed s i v w)
-  unfolding handed
-  handed-of w o e = and-intro (s .owns v w) _ o (true-T (eqb-yes (s .rank w) (suc i) e))
+  pub same-of : (w : ℕ) → T (s .owns v w) → s .rank w ≡ suc i → T (sameLevel s i v w)
+  unfolding sameLevel
+  same-of w o e = and-intro (s .owns v w) _ o (true-T (eqb-yes (s .rank w) (suc i) e))
 
-  pub handed-is : (w : ℕ) → T (handed s i v w) → T (s .owns v w) × (s .rank w ≡ suc i)
-  unfolding handed
-  handed-is w t = (and-left (s .owns v w) _ t, eqb→eq (s .rank w) (suc i) (and-right (s .owns v w) _ t))
+  pub same-is : (w : ℕ) → T (sameLevel s i v w) → T (s .owns v w) × (s .rank w ≡ suc i)
+  unfolding sameLevel
+  same-is w t = (and-left (s .owns v w) _ t, eqb→eq (s .rank w) (suc i) (and-right (s .owns v w) _ t))
 
-  pub kept-of : (w : ℕ) → T (s .owns v w) → s .rank w ≢ suc i → T (kept s i v w)
-  unfolding kept
-  kept-of w o d = and-intro (s .owns v w) _ o (not-T (eqb (s .rank w) (suc i)) (λ t. d (eqb→eq (s .rank w) (suc i) t)))
+  pub other-of : (w : ℕ) → T (s .owns v w) → s .rank w ≢ suc i → T (otherLevel s i v w)
+  unfolding otherLevel
+  other-of w o d = and-intro (s .owns v w) _ o (not-T (eqb (s .rank w) (suc i)) (λ t. d (eqb→eq (s .rank w) (suc i) t)))
 
-  pub kept-is : (w : ℕ) → T (kept s i v w) → T (s .owns v w) × (s .rank w ≢ suc i)
-  unfolding kept
-  kept-is w t =
+  pub other-is : (w : ℕ) → T (otherLevel s i v w) → T (s .owns v w) × (s .rank w ≢ suc i)
+  unfolding otherLevel
+  other-is w t =
       (and-left (s .owns v w) _ t, λ e. T-not (eqb (s .rank w) (suc i)) (and-right (s .owns v w) _ t) (true-T (eqb-yes (s .rank w) (suc i) e)))
 
 pub word-of : (k m w : ℕ) → 64 * k ≤ w → w < 64 * k + m → T (inWord k m w)
@@ -48,16 +48,16 @@ word-is k m w t = (leb→le (64 * k) w (and-left (leb (64 * k) w) _ t), ltb→lt
 
 -- the edges that go, as far as place m of word k
 unfoldable pub going : State → ℕ → ℕ → ℕ → ℕ → ℕ → Bool
-going s i v k m w = handed s i v w && inWord k m w
+going s i v k m w = sameLevel s i v w && inWord k m w
 
 module _ (s : State) (i v k m w : ℕ) where
-  pub going-of : T (handed s i v w) → 64 * k ≤ w → w < 64 * k + m → T (going s i v k m w)
+  pub going-of : T (sameLevel s i v w) → 64 * k ≤ w → w < 64 * k + m → T (going s i v k m w)
   unfolding going
-  going-of h a b = and-intro (handed s i v w) _ h (word-of k m w a b)
+  going-of h a b = and-intro (sameLevel s i v w) _ h (word-of k m w a b)
 
-  pub going-is : T (going s i v k m w) → T (handed s i v w) × (64 * k ≤ w) × (w < 64 * k + m)
+  pub going-is : T (going s i v k m w) → T (sameLevel s i v w) × (64 * k ≤ w) × (w < 64 * k + m)
   unfolding going
-  going-is t = let g = word-is k m w (and-right (handed s i v w) _ t) in (and-left (handed s i v w) _ t, g .0, g .1)
+  going-is t = let g = word-is k m w (and-right (sameLevel s i v w) _ t) in (and-left (sameLevel s i v w) _ t, g .0, g .1)
 
 -- ---- on the way: those who pass q own their edges to v too
 
@@ -132,12 +132,12 @@ module _ (s : State) (p : Proper s) (i v k : ℕ) where
   gone = going s i v k 64
 
   -- an edge of the word: it is gone, or it is kept
-  gone-in : (x y : ℕ) → x ≡ v → 64 * k ≤ y → y < 64 * k + 64 → kept s i v y ≡ ownedBy v gone false (s .owns) x y
+  gone-in : (x y : ℕ) → x ≡ v → 64 * k ≤ y → y < 64 * k + 64 → otherLevel s i v y ≡ ownedBy v gone false (s .owns) x y
   gone-in x y e a b = elim (turned v gone false (s .owns) x y) [
-    | out _ g f ↦ T-false (λ t. kept-is s i v y t .1 (handed-is s i v y (going-is s i v k 64 y g .0) .1)) ∙ sym f
-    | back _ g f ↦ absurd (p .no-loop v (handed-is s i v v (subst (λ (z : ℕ). T (handed s i v z)) e (going-is s i v k 64 x g .0)) .0))
-    | rest g _ f ↦ bool-ext (kept s i v y) (s .owns v y) (λ t. kept-is s i v y t .0)
-        (λ o. kept-of s i v y o (λ r. g e (going-of s i v k 64 y (handed-of s i v y o r) a b))) ∙ ap (λ (z : ℕ). s .owns z y) (sym e) ∙ sym f
+    | out _ g f ↦ T-false (λ t. other-is s i v y t .1 (same-is s i v y (going-is s i v k 64 y g .0) .1)) ∙ sym f
+    | back _ g f ↦ absurd (p .no-loop v (same-is s i v v (subst (λ (z : ℕ). T (sameLevel s i v z)) e (going-is s i v k 64 x g .0)) .0))
+    | rest g _ f ↦ bool-ext (otherLevel s i v y) (s .owns v y) (λ t. other-is s i v y t .0)
+        (λ o. other-of s i v y o (λ r. g e (going-of s i v k 64 y (same-of s i v y o r) a b))) ∙ ap (λ (z : ℕ). s .owns z y) (sym e) ∙ sym f
   ]
 
   -- any other edge
@@ -148,24 +148,24 @@ module _ (s : State) (p : Proper s) (i v k : ℕ) where
     | rest _ g f ↦ gains-same v gone (s .owns) x y g ∙ sym f
   ]
 
-  gone-owns : (x y : ℕ) → withWord (ownersOf s (gains v gone (s .owns))) v k (kept s i v) .owns x y ≡ ownedBy v gone false (s .owns) x y
+  gone-owns : (x y : ℕ) → withWord (ownersOf s (gains v gone (s .owns))) v k (otherLevel s i v) .owns x y ≡ ownedBy v gone false (s .owns) x y
   unfolding ownersOf
   gone-owns x y = elim (holds? (eqb x v && inWord k 64 y)) [
     | inl a ↦
         let e : x ≡ v = eqb→eq x v (and-left (eqb x v) _ a) in
         let r = word-is k 64 y (and-right (eqb x v) _ a) in
-        word-in (ownersOf s (gains v gone (s .owns))) v k (kept s i v) x y e (r .0) (r .1) ∙ gone-in x y e (r .0) (r .1)
+        word-in (ownersOf s (gains v gone (s .owns))) v k (otherLevel s i v) x y e (r .0) (r .1) ∙ gone-in x y e (r .0) (r .1)
     | inr a ↦
         let d : x ≡ v → 64 * k ≤ y → y < 64 * k + 64 → ⊥ = λ e b c. a (and-intro (eqb x v) _ (true-T (eqb-yes x v e)) (word-of k 64 y b c)) in
-        word-out (ownersOf s (gains v gone (s .owns))) v k (kept s i v) x y d ∙ gone-out x y d
+        word-out (ownersOf s (gains v gone (s .owns))) v k (otherLevel s i v) x y d ∙ gone-out x y d
   ]
 
-  pub word-gone : (x : ℕ) → v < 256 → 64 * k < 256 → x < 2 ^ 64 → ((j : ℕ) → j < 64 → bitOf x j ≡ kept s i v (64 * k + j))
+  pub word-gone : (x : ℕ) → v < 256 → 64 * k < 256 → x < 2 ^ 64 → ((j : ℕ) → j < 64 → bitOf x j ≡ otherLevel s i v (64 * k + j))
       → setWord (image (ownersOf s (gains v gone (s .owns)))) v k x ≡ image (ownersOf s (ownedBy v gone false (s .owns)))
   unfolding ownersOf withWord
   word-gone x l m fits same =
-      setWord-image (ownersOf s (gains v gone (s .owns))) v k x (kept s i v) l m fits same
-      ∙ image-ext (withWord (ownersOf s (gains v gone (s .owns))) v k (kept s i v)) (ownersOf s (ownedBy v gone false (s .owns))) (record {
+      setWord-image (ownersOf s (gains v gone (s .owns))) v k x (otherLevel s i v) l m fits same
+      ∙ image-ext (withWord (ownersOf s (gains v gone (s .owns))) v k (otherLevel s i v)) (ownersOf s (ownedBy v gone false (s .owns))) (record {
         n = refl;
         edges = refl;
         rank = λ _ _. refl;

@@ -7,12 +7,12 @@ use Rattle.model.specs.Moves.{ownedBy}
 use Rattle.model.specs.Change.{reown}
 
 -- "each owned link whose other end is also at level i"
-unfoldable pub handed : State → ℕ → ℕ → ℕ → Bool
-handed s i v w = s .owns v w && eqb (s .rank w) (suc i)
+unfoldable pub sameLevel : State → ℕ → ℕ → ℕ → Bool
+sameLevel s i v w = s .owns v w && eqb (s .rank w) (suc i)
 
 -- the other links that v owns
-unfoldable pub kept : State → ℕ → ℕ → ℕ → Bool
-kept s i v w = s .owns v w && not (eqb (s .rank w) (suc i))
+unfoldable pub otherLevel : State → ℕ → ℕ → ℕ → Bool
+otherLevel s i v w = s .owns v w && not (eqb (s .rank w) (suc i))
 
 -- the first m places of word k of a row
 unfoldable pub inWord : ℕ → ℕ → ℕ → Bool
@@ -20,4 +20,4 @@ inWord k m w = leb (64 * k) w && ltb w (64 * k + m)
 
 -- those of these links whose other ends pass q are handed on
 unfoldable pub handedIn : (ℕ → Bool) → ℕ → ℕ → State → State
-handedIn q i v s = reown s (ownedBy v (λ w. handed s i v w && q w) false (s .owns))
+handedIn q i v s = reown s (ownedBy v (λ w. sameLevel s i v w && q w) false (s .owns))

@@ -12,7 +12,7 @@ ghost use Rattle.model.proofs.Facts.{Says};
 ghost use Rattle.theory.specs.Handing.{handedOn};
 ghost use Rattle.layout.specs.Setters.{Sized, own as owned, disown as disowned};
 ghost use Rattle.moves.specs.Proper.{Ordered, Held, tookOver, ranked, RowBelow};
-ghost use Rattle.moves.specs.Handing.{handed, kept, inWord, handedIn};
+ghost use Rattle.moves.specs.Handing.{sameLevel, otherLevel, inWord, handedIn};
 ghost use Rattle.moves.specs.Counts.{withCounts, step, CanStep, none, recounted, loweredCounts, raisedCounts};
 
 // v's pair is parted; a free v stays as it is.
@@ -82,8 +82,8 @@ fn hand_word(rack: &mut [u8], v: usize, i: usize, k: usize, split: Split) -> Spl
     requires { ⌜ (v < read (now rack) .n) × (read (now rack) .rank v ≡ suc i) × (64 * k < mostOf) ⌝ }
     requires { ⌜ (split .handed ≤ mostOf) × (split .below ≤ mostOf) ⌝ }
     ensures { λ _. ⌜ now (rack .exit) ≡ write (handedIn (inWord k 64) i v (read (now (rack .entry)))) ⌝ }
-    ensures { λ r. ⌜ r .handed ≡ split .handed + count (λ j. handed (read (now (rack .entry))) i v (64 * k + j)) 64 ⌝ }
-    ensures { λ r. ⌜ r .below ≡ split .below + count (λ j. kept (read (now (rack .entry))) i v (64 * k + j)) 64 ⌝ }
+    ensures { λ r. ⌜ r .handed ≡ split .handed + count (λ j. sameLevel (read (now (rack .entry))) i v (64 * k + j)) 64 ⌝ }
+    ensures { λ r. ⌜ r .below ≡ split .below + count (λ j. otherLevel (read (now (rack .entry))) i v (64 * k + j)) 64 ⌝ }
 {
     let mut handed = split.handed;
     let mut below = split.below;
