@@ -3,16 +3,19 @@ use mathlib.Core.Path.{_≡_, refl, sym, ap, _∙_, subst}
 use mathlib.Core.Logic.{_≢_, inl, inr}
 use mathlib.Core.Bool.{Bool, true, false, _&&_}
 use mathlib.Core.List.{List}
-use Prim.Native.Nat.{ℕ, suc, _+_, _*_, _≤_, _<_}
+use Prim.Native.Nat.{ℕ, suc, _+_, _*_, _/_, _%_, _≤_, _<_}
+use native.Mathlib.Nat.{mul-comm}
 use native.Mathlib.Numerals.{add-one}
 use native.Mathlib.Omega.{arith}
 use lib.Dec.{T, eqb, ltb, leb→le, le→leb}
 use lib.ListN.{length, getD, set, length-set}
 use lib.Seq.{getD-set-same, getD-set-other}
 use Rattle.model.specs.Counting.{sum, bit, count}
-use Rattle.model.specs.Bytes.{most, rankAt, ownsAt}
+use Rattle.model.specs.Shape.{Shape}
+use Rattle.model.specs.Bytes.{rankAt, ownsAt}
 use Rattle.model.proofs.Tests.{eq?, le?, bool-ext, eqb-yes, eqb-no, leb-yes, leb-no, and-intro, and-left, and-right}
-use Rattle.model.proofs.Counting.{sum-le, sum-point, sum-bound, sum-add, sum-zero, sum-eq, bit-le, bit-yes, count-bound}
+use Rattle.model.proofs.Counting.{sum-le, sum-point, sum-bound, sum-eq, bit-le, bit-yes, count-bound}
+use Rattle.model.proofs.Parts.{rows-div, rows-mod, rows-inside}
 use Rattle.model.proofs.Prefix.{count-suc, count-zero, count-skip}
 use Rattle.audit.specs.Tally.{share, tallied, partly, ends, Added}
 
@@ -39,30 +42,39 @@ ends-other : (v w r x s : ℕ) → r ≢ s → ends v w r x s ≡ 0
 unfolding ends
 ends-other v w r x s d = rw (eqb-no r s d, ends) refl
 
--- an entry is one vertex's for one rank
-cell-same : (x w r s : ℕ) → r ≡ s → eqb (4 * x + s) (4 * w + r) ≡ eqb x w
-cell-same x w r s e = elim (eq? x w) [
-  | inl q ↦ eqb-yes (4 * x + s) (4 * w + r) (omega arith) ∙ sym (eqb-yes x w q)
-  | inr d ↦ eqb-no (4 * x + s) (4 * w + r) (λ q. d (omega arith)) ∙ sym (eqb-no x w d)
+-- an entry is one vertex's for one rank of k, and a tally has it
+pub cell-inside : (S : Shape) (x r : ℕ) → x < S .most → r < S .levels → S .levels * x + r < S .levels * S .most
+cell-inside S x r hx hr = omega (arith, rows-inside (S .most) (S .levels) x r hx hr, mul-comm (S .most) (S .levels))
+
+cell-same : (k x w r s : ℕ) → s < k → r ≡ s → eqb (k * x + s) (k * w + r) ≡ eqb x w
+cell-same k x w r s h e = elim (eq? x w) [
+  | inl q ↦ eqb-yes (k * x + s) (k * w + r) (omega (arith, ap (λ (y : ℕ). k * y) q)) ∙ sym (eqb-yes x w q)
+  | inr d ↦ eqb-no (k * x + s) (k * w + r)
+      (λ q. d (sym (rows-div k x s h) ∙ ap (λ (y : ℕ). y / k) q ∙ rows-div k w r (omega arith))) ∙ sym (eqb-no x w d)
 ]
 
-cell-other : (x w r s : ℕ) → r < 4 → s < 4 → r ≢ s → eqb (4 * x + s) (4 * w + r) ≡ false
-cell-other x w r s h k d = eqb-no (4 * x + s) (4 * w + r) (λ q. d (omega arith))
+cell-other : (k x w r s : ℕ) → r < k → s < k → r ≢ s → eqb (k * x + s) (k * w + r) ≡ false
+cell-other k x w r s hr hs d =
+    eqb-no (k * x + s) (k * w + r) (λ q. d (sym (rows-mod k w r hr) ∙ ap (λ (y : ℕ). y % k) (sym q) ∙ rows-mod k x s hs))
 
-pub added : (t : List ℕ) (v w r : ℕ) → length t ≡ 4 * most → v < most → w < most → r < 4
-    → let u = set t (4 * w + r) (getD t (4 * w + r) 0 + 1) in Added t (set u (4 * v + r) (getD u (4 * v + r) 0 + 1)) v w r
-added t v w r long hv hw hr =
-    let u = set t (4 * w + r) (getD t (4 * w + r) 0 + 1) in
-    let same : length u ≡ length t = length-set t (4 * w + r) (getD t (4 * w + r) 0 + 1) in
+pub added : (S : Shape) (t : List ℕ) (v w r : ℕ) → length t ≡ S .levels * S .most → v < S .most → w < S .most → r < S .levels
+    → let there = S .levels * w + r in
+    let here = S .levels * v + r in
+    let u = set t there (getD t there 0 + 1) in
+    Added S t (set u here (getD u here 0 + 1)) v w r
+added S t v w r long hv hw hr =
+    let m = S .levels in
+    let u = set t (m * w + r) (getD t (m * w + r) 0 + 1) in
+    let same : length u ≡ length t = length-set t (m * w + r) (getD t (m * w + r) 0 + 1) in
     record {
-      long = length-set u (4 * v + r) (getD u (4 * v + r) 0 + 1) ∙ same;
+      long = length-set u (m * v + r) (getD u (m * v + r) 0 + 1) ∙ same;
       at = λ x s hs.
-          let k = 4 * x + s in
-          let first = bump t (4 * w + r) k (omega arith) in
-          let second = bump u (4 * v + r) k (omega (arith, same)) in
+          let k = m * x + s in
+          let first = bump t (m * w + r) k (omega (arith, cell-inside S w r hw hr)) in
+          let second = bump u (m * v + r) k (omega (arith, same, cell-inside S v r hv hr)) in
           elim (eq? r s) [
-            | inl e ↦ omega (arith, first, second, ends-same v w r x s e, ap bit (cell-same x w r s e), ap bit (cell-same x v r s e))
-            | inr d ↦ omega (arith, first, second, ends-other v w r x s d, ap bit (cell-other x w r s hr hs d), ap bit (cell-other x v r s hr hs d))
+            | inl e ↦ omega (arith, first, second, ends-same v w r x s e, ap bit (cell-same m x w r s hs e), ap bit (cell-same m x v r s hs e))
+            | inr d ↦ omega (arith, first, second, ends-other v w r x s d, ap bit (cell-other m x w r s hr hs d), ap bit (cell-other m x v r s hr hs d))
           ];
     }
 
@@ -83,12 +95,12 @@ pub here-other : (o : ℕ → Bool) (v p x : ℕ) → x ≢ v → here o v p x �
 unfolding here
 here-other o v p x d = rw (eqb-no x v d, here) refl
 
-module _ (bs : List ℕ) (v p x r : ℕ) where
-  pub share-other : rankAt bs v ≢ r → share bs v p x r ≡ 0
+module _ (S : Shape) (bs : List ℕ) (v p x r : ℕ) where
+  pub share-other : rankAt bs v ≢ r → share S bs v p x r ≡ 0
   unfolding share
   share-other d = rw (eqb-no (rankAt bs v) r d, share) refl
 
-  pub share-same : rankAt bs v ≡ r → share bs v p x r ≡ there (ownsAt bs v) p x + here (ownsAt bs v) v p x
+  pub share-same : rankAt bs v ≡ r → share S bs v p x r ≡ there (ownsAt S bs v) p x + here (ownsAt S bs v) v p x
   unfolding share there here
   share-same e = rw (eqb-yes (rankAt bs v) r e, share) refl
 
@@ -148,99 +160,106 @@ here-skip o v p q x h none = elim (eq? x v) [
   | inr d ↦ here-other o v p x d ∙ sym (here-other o v q x d)
 ]
 
-pub share-add : (bs : List ℕ) (v w x s : ℕ) → T (ownsAt bs v w) → share bs v (w + 1) x s ≡ share bs v w x s + ends v w (rankAt bs v) x s
-share-add bs v w x s t = elim (eq? (rankAt bs v) s) [
+pub share-add : (S : Shape) (bs : List ℕ) (v w x s : ℕ) → T (ownsAt S bs v w) → share S bs v (w + 1) x s ≡ share S bs v w x s + ends v w (rankAt bs v) x s
+share-add S bs v w x s t = elim (eq? (rankAt bs v) s) [
   | inl e ↦ omega (
     arith,
-    share-same bs v (w + 1) x s e,
-    share-same bs v w x s e,
+    share-same S bs v (w + 1) x s e,
+    share-same S bs v w x s e,
     ends-same v w (rankAt bs v) x s e,
-    there-add (ownsAt bs v) w x t,
-    here-add (ownsAt bs v) v w x t,
+    there-add (ownsAt S bs v) w x t,
+    here-add (ownsAt S bs v) v w x t,
   )
-  | inr d ↦ omega (arith, share-other bs v (w + 1) x s d, share-other bs v w x s d, ends-other v w (rankAt bs v) x s d)
+  | inr d ↦ omega (arith, share-other S bs v (w + 1) x s d, share-other S bs v w x s d, ends-other v w (rankAt bs v) x s d)
 ]
 
-pub share-skip : (bs : List ℕ) (v p q x s : ℕ) → p ≤ q → ((j : ℕ) → p ≤ j → j < q → T (ownsAt bs v j) → ⊥) → share bs v p x s ≡ share bs v q x s
-share-skip bs v p q x s h none = elim (eq? (rankAt bs v) s) [
+pub share-skip : (S : Shape) (bs : List ℕ) (v p q x s : ℕ) → p ≤ q → ((j : ℕ) → p ≤ j → j < q → T (ownsAt S bs v j) → ⊥) → share S bs v p x s ≡ share S bs v q x s
+share-skip S bs v p q x s h none = elim (eq? (rankAt bs v) s) [
   | inl e ↦ omega (
     arith,
-    share-same bs v p x s e,
-    share-same bs v q x s e,
-    there-skip (ownsAt bs v) p q x h none,
-    here-skip (ownsAt bs v) v p q x h none,
+    share-same S bs v p x s e,
+    share-same S bs v q x s e,
+    there-skip (ownsAt S bs v) p q x h none,
+    here-skip (ownsAt S bs v) v p q x h none,
   )
-  | inr d ↦ share-other bs v p x s d ∙ sym (share-other bs v q x s d)
+  | inr d ↦ share-other S bs v p x s d ∙ sym (share-other S bs v q x s d)
 ]
 
-pub share-none : (bs : List ℕ) (v x s : ℕ) → share bs v 0 x s ≡ 0
-share-none bs v x s = elim (eq? (rankAt bs v) s) [
-  | inl e ↦ omega (arith, share-same bs v 0 x s e, there-past (ownsAt bs v) 0 x (omega arith), none)
-  | inr d ↦ share-other bs v 0 x s d
+pub share-none : (S : Shape) (bs : List ℕ) (v x s : ℕ) → share S bs v 0 x s ≡ 0
+share-none S bs v x s = elim (eq? (rankAt bs v) s) [
+  | inl e ↦ omega (arith, share-same S bs v 0 x s e, there-past (ownsAt S bs v) 0 x (omega arith), none)
+  | inr d ↦ share-other S bs v 0 x s d
 ]
   where
-    none : here (ownsAt bs v) v 0 x ≡ 0
-    none = elim (eq? x v) [ inl e ↦ here-same (ownsAt bs v) v 0 x e ∙ count-zero (ownsAt bs v) | inr d ↦ here-other (ownsAt bs v) v 0 x d ]
+    none : here (ownsAt S bs v) v 0 x ≡ 0
+    none = elim (eq? x v) [ inl e ↦ here-same (ownsAt S bs v) v 0 x e ∙ count-zero (ownsAt S bs v) | inr d ↦ here-other (ownsAt S bs v) v 0 x d ]
 
 -- ---- a row more, and bounds
 
-pub tallied-suc : (bs : List ℕ) (v x r : ℕ) → tallied bs (v + 1) x r ≡ tallied bs v x r + share bs v most x r
+pub tallied-suc : (S : Shape) (bs : List ℕ) (v x r : ℕ) → tallied S bs (v + 1) x r ≡ tallied S bs v x r + share S bs v (S .most) x r
 unfolding tallied sum
-tallied-suc bs v x r = ap (λ (k : ℕ). tallied bs k x r) (add-one v) ∙ omega arith
+tallied-suc S bs v x r = ap (λ (k : ℕ). tallied S bs k x r) (add-one v) ∙ omega arith
 
-pub tallied-none : (bs : List ℕ) (x r : ℕ) → tallied bs 0 x r ≡ 0
+pub tallied-none : (S : Shape) (bs : List ℕ) (x r : ℕ) → tallied S bs 0 x r ≡ 0
 unfolding tallied sum
-tallied-none bs x r = refl
+tallied-none S bs x r = refl
 
--- all of a row's edges, at x if x is the row's vertex
-spike : ℕ → ℕ → ℕ
-spike x v = elim (eqb x v) [ true ↦ 256 | false ↦ 0 ]
+-- what a row of most places adds at x, at most: one, and all its edges if x is the row's vertex
+limit : ℕ → ℕ → ℕ → ℕ
+limit most x v = 1 + elim (eqb x v) [ true ↦ most | false ↦ 0 ]
 
-spike-same : (x v : ℕ) → x ≡ v → spike x v ≡ 256
-unfolding spike
-spike-same x v e = rw (eqb-yes x v e, spike) refl
+limit-same : (most x v : ℕ) → x ≡ v → limit most x v ≡ 1 + most
+unfolding limit
+limit-same most x v e = rw (eqb-yes x v e, limit) refl
 
-spike-other : (x v : ℕ) → x ≢ v → spike x v ≡ 0
-unfolding spike
-spike-other x v d = rw (eqb-no x v d, spike) refl
+limit-other : (most x v : ℕ) → x ≢ v → limit most x v ≡ 1
+unfolding limit
+limit-other most x v d = rw (eqb-no x v d, limit) refl
 
-share-le : (bs : List ℕ) (v p x r : ℕ) → p ≤ 256 → share bs v p x r ≤ 1 + spike x v
-share-le bs v p x r h = elim (eq? (rankAt bs v) r) [
-  | inr d ↦ omega (arith, share-other bs v p x r d)
-  | inl e ↦ elim (eq? x v) [
-    | inl q ↦ omega (
+limits : (most x k : ℕ) → sum (limit most x) k ≤ k + most
+limits most x k =
+    let ones : sum (λ v. 1) k ≤ k = omega (arith, sum-bound (λ v. 1) 1 k (λ v b. omega arith)) in
+    elim (le? k x) [
+      | inl l ↦ omega (arith, ones, sum-eq (limit most x) (λ v. 1) k (λ v b. limit-other most x v (omega arith)))
+      | inr l ↦ omega (arith, ones, sum-point (limit most x) (λ v. 1) x k l (λ v b d. limit-other most x v (λ e. d (sym e))), limit-same most x x refl)
+    ]
+
+share-le : (S : Shape) (bs : List ℕ) (v p x r : ℕ) → p ≤ S .most → share S bs v p x r ≤ limit (S .most) x v
+share-le S bs v p x r h = elim (eq? x v) [
+  | inl q ↦ elim (eq? (rankAt bs v) r) [
+    | inl e ↦ omega (
       arith,
-      share-same bs v p x r e,
-      there-le (ownsAt bs v) p x,
-      here-same (ownsAt bs v) v p x q,
-      count-bound (ownsAt bs v) p,
-      spike-same x v q,
+      share-same S bs v p x r e,
+      there-le (ownsAt S bs v) p x,
+      here-same (ownsAt S bs v) v p x q,
+      count-bound (ownsAt S bs v) p,
+      limit-same (S .most) x v q,
     )
-    | inr q ↦ omega (arith, share-same bs v p x r e, there-le (ownsAt bs v) p x, here-other (ownsAt bs v) v p x q, spike-other x v q)
+    | inr d ↦ omega (arith, share-other S bs v p x r d, limit-same (S .most) x v q)
+  ]
+  | inr q ↦ elim (eq? (rankAt bs v) r) [
+    | inl e ↦ omega (
+      arith,
+      share-same S bs v p x r e,
+      there-le (ownsAt S bs v) p x,
+      here-other (ownsAt S bs v) v p x q,
+      limit-other (S .most) x v q,
+    )
+    | inr d ↦ omega (arith, share-other S bs v p x r d, limit-other (S .most) x v q)
   ]
 ]
 
-spikes : (x k : ℕ) → sum (spike x) k ≤ 256
-spikes x k = elim (le? k x) [
-  | inl l ↦ omega (arith, sum-eq (spike x) (λ v. 0) k (λ v b. spike-other x v (omega arith)), sum-zero k)
-  | inr l ↦ omega (arith, sum-point (spike x) (λ v. 0) x k l (λ v b d. spike-other x v (λ e. d (sym e))), sum-zero k, spike-same x x refl)
-]
-
-tallied-le : (bs : List ℕ) (k x r : ℕ) → tallied bs k x r ≤ k + 256
-unfolding tallied
-tallied-le bs k x r =
+-- an entry is one for each row at most, and all of one row
+partly-le : (S : Shape) (bs : List ℕ) (v p x r : ℕ) → p ≤ S .most → partly S bs v p x r ≤ suc v + S .most
+unfolding partly tallied sum
+partly-le S bs v p x r h =
     omega (
       arith,
-      sum-le (λ v. share bs v most x r) (λ v. 1 + spike x v) k (λ v b. share-le bs v 256 x r (omega arith)),
-      sum-add (λ v. 1) (spike x) k,
-      sum-bound (λ v. 1) 1 k (λ v b. omega arith),
-      spikes x k,
+      sum-le (λ w. share S bs w (S .most) x r) (limit (S .most) x) v (λ w b. share-le S bs w (S .most) x r (omega arith)),
+      share-le S bs v p x r h,
+      limits (S .most) x (suc v),
     )
 
--- no entry comes near the end of 16 bits
-pub partly-small : (bs : List ℕ) (v p x r : ℕ) → v ≤ 256 → p ≤ 256 → partly bs v p x r < 65534
-unfolding partly
-partly-small bs v p x r hv hp = elim (eq? x v) [
-  | inl e ↦ omega (arith, tallied-le bs v x r, share-le bs v p x r hp, spike-same x v e)
-  | inr d ↦ omega (arith, tallied-le bs v x r, share-le bs v p x r hp, spike-other x v d)
-]
+-- where twice the places fit 16 bits, no entry comes near their end
+pub partly-small : (S : Shape) → 2 * S .most < 65534 → (bs : List ℕ) (v p x r : ℕ) → v < S .most → p ≤ S .most → partly S bs v p x r < 65534
+partly-small S fits bs v p x r hv hp = omega (arith, partly-le S bs v p x r hp)

@@ -10,6 +10,7 @@ use lib.Dec.{T}
 use lib.ListN.{getD}
 use lib.Bits.{bitAnd}
 use lib.Count.{trailingZeros}
+use Rattle.model.specs.Shape.{Shape}
 use Rattle.model.specs.Bytes.{rankAt, ownsAt}
 use Rattle.model.proofs.Tests.{eq?, le?}
 use Rattle.bitset.specs.Words.{Rest}
@@ -65,64 +66,65 @@ module _ (o : ℕ → Bool) (P : ℕ → Type 0) (skips : Skips o P) (base x : �
 
 -- ---- a row below the top
 
-module _ (bs t : List ℕ) (v : ℕ) where
-  pub walked-skips : Skips (ownsAt bs v) (Walked bs t v)
+module _ (S : Shape) (bs t : List ℕ) (v : ℕ) where
+  pub walked-skips : Skips (ownsAt S bs v) (Walked S bs t v)
   unfolding partly
   walked-skips p q h none w = record {
     right = λ x l o. elim (le? p x) [ inl a ↦ absurd (none x a l o) | inr a ↦ w .right x a o ];
     tally = record {
       long = w .tally .long;
-      at = λ x r hx hr. w .tally .at x r hx hr ∙ ap (λ (y : ℕ). tallied bs v x r + y) (share-skip bs v p q x r h none);
+      at = λ x r hx hr. w .tally .at x r hx hr ∙ ap (λ (y : ℕ). tallied S bs v x r + y) (share-skip S bs v p q x r h none);
     };
   }
 
-  pub walked-add : (u : List ℕ) (w : ℕ) → Walked bs t v w → T (ownsAt bs v w) → Right bs v w → Added t u v w (rankAt bs v) → Walked bs u v (w + 1)
+  pub walked-add : (u : List ℕ) (w : ℕ) → Walked S bs t v w → T (ownsAt S bs v w) → Right S bs v w → Added S t u v w (rankAt bs v) → Walked S bs u v (w + 1)
   unfolding partly
   walked-add u w k o r a = record {
     right = λ x l q. elim (eq? x w) [
-      | inl e ↦ subst (λ (y : ℕ). Right bs v y) (sym e) r
+      | inl e ↦ subst (λ (y : ℕ). Right S bs v y) (sym e) r
       | inr d ↦ k .right x (omega arith) q
     ];
     tally = record {
       long = a .long ∙ k .tally .long;
-      at = λ x s hx hs. omega (arith, a .at x s hs, k .tally .at x s hx hs, share-add bs v w x s o);
+      at = λ x s hx hs. omega (arith, a .at x s hs, k .tally .at x s hx hs, share-add S bs v w x s o);
     };
   }
 
-  pub walked-start : Holds t (tallied bs v) → Walked bs t v 0
+  pub walked-start : Holds S t (tallied S bs v) → Walked S bs t v 0
   unfolding partly
   walked-start h = record {
     right = λ x l o. absurd (omega arith);
-    tally = record { long = h .long; at = λ x r hx hr. omega (arith, h .at x r hx hr, share-none bs v x r) };
+    tally = record { long = h .long; at = λ x r hx hr. omega (arith, h .at x r hx hr, share-none S bs v x r) };
   }
 
   -- all of the row
-  pub walked-end : (p : ℕ) → p ≤ 256 → ((j : ℕ) → j < 256 → p ≤ j → T (ownsAt bs v j) → ⊥) → Walked bs t v p → Holds t (tallied bs (v + 1))
+  pub walked-end : (p : ℕ) → p ≤ S .most → ((j : ℕ) → j < S .most → p ≤ j → T (ownsAt S bs v j) → ⊥) → Walked S bs t v p → Holds S t (tallied S bs (v + 1))
   unfolding partly
   walked-end p h none w =
-      let all = walked-skips p 256 h (λ j a b. none j b a) w in
-      record { long = w .tally .long; at = λ x r hx hr. all .tally .at x r hx hr ∙ sym (tallied-suc bs v x r) }
+      let all = walked-skips p (S .most) h (λ j a b. none j b a) w in
+      record { long = w .tally .long; at = λ x r hx hr. all .tally .at x r hx hr ∙ sym (tallied-suc S bs v x r) }
 
   -- entries stay small
-  pub walked-small : (p r : ℕ) → v < 256 → p ≤ 256 → r < 4 → Walked bs t v p → (x : ℕ) → x < 256 → getD t (4 * x + r) 0 < 65534
-  walked-small p r hv hp hr w x hx = omega (arith, w .tally .at x r hx hr, partly-small bs v p x r (omega arith) hp)
+  pub walked-small : 2 * S .most < 65534 → (p r : ℕ) → v < S .most → p ≤ S .most → r < S .levels → Walked S bs t v p
+      → (x : ℕ) → x < S .most → getD t (S .levels * x + r) 0 < 65534
+  walked-small fits p r hv hp hr w x hx = omega (arith, w .tally .at x r hx hr, partly-small S fits bs v p x r hv hp)
 
   -- where no edge leads past n, a row is right as far as any place
-  pub right-past : (n p : ℕ) → p ≤ 256 → ((j : ℕ) → j < 256 → n ≤ j → T (ownsAt bs v j) → ⊥) → RightBelow bs v n → RightBelow bs v p
+  pub right-past : (n p : ℕ) → p ≤ S .most → ((j : ℕ) → j < S .most → n ≤ j → T (ownsAt S bs v j) → ⊥) → RightBelow S bs v n → RightBelow S bs v p
   right-past n p h none g w l o = elim (le? n w) [ inl a ↦ absurd (none w (omega arith) a o) | inr a ↦ g w a o ]
 
-  -- a row at the top adds nothing
-  pub top-adds-none : 3 < rankAt bs v → Holds t (tallied bs v) → Holds t (tallied bs (v + 1))
+  -- a row whose rank has no entry adds nothing
+  pub top-adds-none : S .levels ≤ rankAt bs v → Holds S t (tallied S bs v) → Holds S t (tallied S bs (v + 1))
   top-adds-none h k = record {
     long = k .long;
-    at = λ x r hx hr. omega (arith, k .at x r hx hr, tallied-suc bs v x r, share-other bs v 256 x r (λ e. omega arith));
+    at = λ x r hx hr. omega (arith, k .at x r hx hr, tallied-suc S bs v x r, share-other S bs v (S .most) x r (λ e. omega arith));
   }
 
 -- ---- a row at the top
 
-module _ (bs : List ℕ) (v : ℕ) where
-  pub once-skips : Skips (ownsAt bs v) (OnceBelow bs v)
+module _ (S : Shape) (bs : List ℕ) (v : ℕ) where
+  pub once-skips : Skips (ownsAt S bs v) (OnceBelow S bs v)
   once-skips p q h none w x l o = elim (le? p x) [ inl a ↦ absurd (none x a l o) | inr a ↦ w x a o ]
 
-  pub once-add : (w : ℕ) → OnceBelow bs v w → (T (ownsAt bs w v) → ⊥) → OnceBelow bs v (w + 1)
-  once-add w k n x l o = elim (eq? x w) [ inl e ↦ subst (λ (y : ℕ). T (ownsAt bs y v) → ⊥) (sym e) n | inr d ↦ k x (omega arith) o ]
+  pub once-add : (w : ℕ) → OnceBelow S bs v w → (T (ownsAt S bs w v) → ⊥) → OnceBelow S bs v (w + 1)
+  once-add w k n x l o = elim (eq? x w) [ inl e ↦ subst (λ (y : ℕ). T (ownsAt S bs y v) → ⊥) (sym e) n | inr d ↦ k x (omega arith) o ]

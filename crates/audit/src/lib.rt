@@ -3,8 +3,9 @@
 ghost use mathlib.Core.Path.{_≡_};
 ghost use Prim.Native.Nat.{ℕ, _*_, _<_, _≤_};
 ghost use lib.ListN.{length};
+ghost use Rattle.model.specs.Shape.{low};
 ghost use Rattle.model.specs.State.{base};
-ghost use Rattle.model.specs.Bytes.{most, sizeAt};
+ghost use Rattle.model.specs.Bytes.{sizeAt};
 ghost use Rattle.model.specs.Sound.{sound as soundOf};
 ghost use Rattle.model.proofs.Facts.{Says, Mated};
 ghost use Rattle.layout.specs.Setters.{Sized};
@@ -14,16 +15,16 @@ mod rows;
 
 // Whether the counts of v are what the tally says, and below their thresholds.
 fn counts_of(rack: &[u8], tally: &[u16], v: usize) -> bool
-    requires { ⌜ Sized (now rack) ⌝ }
-    requires { ⌜ v < most ⌝ }
-    requires { ⌜ length (now tally) ≡ 4 * most ⌝ }
-    ensures { λ a. ⌜ Says a ((j : ℕ) → j < 4 → Count (now (rack .entry)) (now (tally .entry)) v j) ⌝ }
+    requires { ⌜ Sized low (now rack) ⌝ }
+    requires { ⌜ v < low .most ⌝ }
+    requires { ⌜ length (now tally) ≡ low .levels * low .most ⌝ }
+    ensures { λ a. ⌜ Says a ((j : ℕ) → j ≤ base .top → Count low (now (rack .entry)) (now (tally .entry)) v j) ⌝ }
 {
     let top = layout::top();
     let mut total: u32 = 0;
     let mut j = 0;
     while j <= top {
-        total += tally[4 * v + j] as u32;
+        total += tally[layout::shape::LEVELS * v + j] as u32;
         let x = layout::phi(rack, v, j);
         if x as u32 != total {
             return false;
@@ -38,10 +39,10 @@ fn counts_of(rack: &[u8], tally: &[u16], v: usize) -> bool
 
 // Whether the counts of every vertex are what the tally says, and below their thresholds.
 fn counts(rack: &[u8], tally: &[u16], n: usize) -> bool
-    requires { ⌜ Sized (now rack) ⌝ }
-    requires { ⌜ n ≤ most ⌝ }
-    requires { ⌜ length (now tally) ≡ 4 * most ⌝ }
-    ensures { λ a. ⌜ Says a ((v : ℕ) → v < n → (j : ℕ) → j < 4 → Count (now (rack .entry)) (now (tally .entry)) v j) ⌝ }
+    requires { ⌜ Sized low (now rack) ⌝ }
+    requires { ⌜ n ≤ low .most ⌝ }
+    requires { ⌜ length (now tally) ≡ low .levels * low .most ⌝ }
+    ensures { λ a. ⌜ Says a ((v : ℕ) → v < n → (j : ℕ) → j ≤ base .top → Count low (now (rack .entry)) (now (tally .entry)) v j) ⌝ }
 {
     let mut v = 0;
     while v < n {
@@ -55,11 +56,11 @@ fn counts(rack: &[u8], tally: &[u16], n: usize) -> bool
 
 // Whether w is a right mate for v: it names v, stands at the same rank and is joined to v by an edge.
 fn mated(rack: &[u8], v: usize, w: usize, n: usize) -> bool
-    requires { ⌜ Sized (now rack) ⌝ }
+    requires { ⌜ Sized low (now rack) ⌝ }
     requires { ⌜ n ≡ sizeAt (now rack) ⌝ }
-    requires { ⌜ n ≤ most ⌝ }
+    requires { ⌜ n ≤ low .most ⌝ }
     requires { ⌜ v < n ⌝ }
-    ensures { λ a. ⌜ Says a (Mated (now (rack .entry)) v w) ⌝ }
+    ensures { λ a. ⌜ Says a (Mated low (now (rack .entry)) v w) ⌝ }
 {
     if n <= w {
         return false;
@@ -75,11 +76,11 @@ fn mated(rack: &[u8], v: usize, w: usize, n: usize) -> bool
 
 // Whether the mate of v is right, and v has none exactly if its rank is 0.
 fn mate_of(rack: &[u8], v: usize, n: usize) -> bool
-    requires { ⌜ Sized (now rack) ⌝ }
+    requires { ⌜ Sized low (now rack) ⌝ }
     requires { ⌜ n ≡ sizeAt (now rack) ⌝ }
-    requires { ⌜ n ≤ most ⌝ }
+    requires { ⌜ n ≤ low .most ⌝ }
     requires { ⌜ v < n ⌝ }
-    ensures { λ a. ⌜ Says a (Mate (now (rack .entry)) v) ⌝ }
+    ensures { λ a. ⌜ Says a (Mate low (now (rack .entry)) v) ⌝ }
 {
     let m = layout::mate(rack, v);
     let r = layout::rank(rack, v);
@@ -94,10 +95,10 @@ fn mate_of(rack: &[u8], v: usize, n: usize) -> bool
 
 // Whether the mate of every vertex is right, and each has none exactly if its rank is 0.
 fn mates(rack: &[u8], n: usize) -> bool
-    requires { ⌜ Sized (now rack) ⌝ }
+    requires { ⌜ Sized low (now rack) ⌝ }
     requires { ⌜ n ≡ sizeAt (now rack) ⌝ }
-    requires { ⌜ n ≤ most ⌝ }
-    ensures { λ a. ⌜ Says a ((v : ℕ) → v < n → Mate (now (rack .entry)) v) ⌝ }
+    requires { ⌜ n ≤ low .most ⌝ }
+    ensures { λ a. ⌜ Says a ((v : ℕ) → v < n → Mate low (now (rack .entry)) v) ⌝ }
 {
     let mut v = 0;
     while v < n {
@@ -111,11 +112,11 @@ fn mates(rack: &[u8], n: usize) -> bool
 
 // Whether the rows and the counts are right.
 fn edges(rack: &[u8], n: usize) -> bool
-    requires { ⌜ Sized (now rack) ⌝ }
-    requires { ⌜ n ≤ most ⌝ }
-    ensures { λ a. ⌜ Says a (Edges (now (rack .entry)) n) ⌝ }
+    requires { ⌜ Sized low (now rack) ⌝ }
+    requires { ⌜ n ≤ low .most ⌝ }
+    ensures { λ a. ⌜ Says a (Edges low (now (rack .entry)) n) ⌝ }
 {
-    let mut tally = [0u16; 4 * layout::MOST];
+    let mut tally = [0u16; layout::shape::LEVELS * layout::shape::MOST];
     if !rows::all(rack, &mut tally, n) {
         return false;
     }
@@ -124,14 +125,14 @@ fn edges(rack: &[u8], n: usize) -> bool
 
 // Whether the bytes are those of a sound rack.
 pub fn sound(rack: &[u8]) -> bool
-    requires { ⌜ Sized (now rack) ⌝ }
-    ensures { λ a. ⌜ a ≡ soundOf base (now (rack .entry)) ⌝ }
+    requires { ⌜ Sized low (now rack) ⌝ }
+    ensures { λ a. ⌜ a ≡ soundOf base low (now (rack .entry)) ⌝ }
 {
     let n = layout::size(rack);
     if n < 1 {
         return false;
     }
-    if layout::MOST < n {
+    if layout::shape::MOST < n {
         return false;
     }
     if !layout::unused::spare_zero(rack) {

@@ -3,7 +3,8 @@ ghost use mathlib.Core.Path.{_≡_};
 ghost use Prim.Native.Nat.{ℕ, _+_, _*_, _<_, _≤_};
 ghost use lib.Dec.{T};
 ghost use lib.ListN.{length, getD};
-ghost use Rattle.model.specs.Bytes.{most, rankAt, ownsAt};
+ghost use Rattle.model.specs.Shape.{low};
+ghost use Rattle.model.specs.Bytes.{rankAt, ownsAt};
 ghost use Rattle.model.proofs.Facts.{Says};
 ghost use Rattle.layout.specs.Setters.{Sized};
 ghost use Rattle.audit.specs.Tally.{tallied, Holds, Added};
@@ -11,11 +12,11 @@ ghost use Rattle.audit.specs.Parts.{Right, RightBelow, Walked, OnceBelow
 
 // Whether the edge v-w, which v of rank r owns, is owned rightly.
 fn right(rack: &[u8], v: usize, r: usize, w: usize) -> bool
-    requires { ⌜ Sized (now rack) ⌝ }
-    requires { ⌜ v < most ⌝ }
-    requires { ⌜ w < most ⌝ }
+    requires { ⌜ Sized low (now rack) ⌝ }
+    requires { ⌜ v < low .most ⌝ }
+    requires { ⌜ w < low .most ⌝ }
     requires { ⌜ r ≡ rankAt (now rack) v ⌝ }
-    ensures { λ a. ⌜ Says a (Right (now (rack .entry)) v w) ⌝ }
+    ensures { λ a. ⌜ Says a (Right low (now (rack .entry)) v w) ⌝ }
 {
     if r < layout::rank(rack, w) as usize {
         return false;
@@ -25,29 +26,29 @@ fn right(rack: &[u8], v: usize, r: usize, w: usize) -> bool
 
 // Adds the edge v-w, whose owner has rank r, to the tally, at both its ends.
 fn add(tally: &mut [u16], v: usize, w: usize, r: usize)
-    requires { ⌜ length (now tally) ≡ 4 * most ⌝ }
-    requires { ⌜ v < most ⌝ }
-    requires { ⌜ w < most ⌝ }
-    requires { ⌜ r < 4 ⌝ }
-    requires { ⌜ ((x : ℕ) → x < most → getD (now tally) (4 * x + r) 0 < 65534) ⌝ }
-    ensures { λ _. ⌜ Added (now (tally .entry)) (now (tally .exit)) v w r ⌝ }
+    requires { ⌜ length (now tally) ≡ low .levels * low .most ⌝ }
+    requires { ⌜ v < low .most ⌝ }
+    requires { ⌜ w < low .most ⌝ }
+    requires { ⌜ r < low .levels ⌝ }
+    requires { ⌜ ((x : ℕ) → x < low .most → getD (now tally) (low .levels * x + r) 0 < 65534) ⌝ }
+    ensures { λ _. ⌜ Added low (now (tally .entry)) (now (tally .exit)) v w r ⌝ }
 {
-    let there = 4 * w + r;
+    let there = layout::shape::LEVELS * w + r;
     tally[there] += 1;
-    let here = 4 * v + r;
+    let here = layout::shape::LEVELS * v + r;
     tally[here] += 1;
 }
 
 // Walks one word of row v, of rank r below the top. The bits of a word lead from edge to edge, and `x & (x - 1)` takes the lowest out.
 fn walk_word(rack: &[u8], tally: &mut [u16], v: usize, r: usize, k: usize) -> bool
-    requires { ⌜ Sized (now rack) ⌝ }
-    requires { ⌜ v < most ⌝ }
+    requires { ⌜ Sized low (now rack) ⌝ }
+    requires { ⌜ v < low .most ⌝ }
     requires { ⌜ r ≡ rankAt (now rack) v ⌝ }
-    requires { ⌜ r < 4 ⌝ }
-    requires { ⌜ 64 * k < most ⌝ }
-    requires { ⌜ Walked (now rack) (now tally) v (64 * k) ⌝ }
-    ensures { λ a. ⌜ Says a (RightBelow (now (rack .entry)) v (64 * k + 64)) ⌝ }
-    ensures { λ a. ⌜ (T a → Walked (now (rack .entry)) (now (tally .exit)) v (64 * k + 64)) ⌝ }
+    requires { ⌜ r < low .levels ⌝ }
+    requires { ⌜ 64 * k < low .most ⌝ }
+    requires { ⌜ Walked low (now rack) (now tally) v (64 * k) ⌝ }
+    ensures { λ a. ⌜ Says a (RightBelow low (now (rack .entry)) v (64 * k + 64)) ⌝ }
+    ensures { λ a. ⌜ (T a → Walked low (now (rack .entry)) (now (tally .exit)) v (64 * k + 64)) ⌝ }
 {
     let mut x = layout::words::word(rack, v, k);
     while x != 0 {
@@ -63,15 +64,15 @@ fn walk_word(rack: &[u8], tally: &mut [u16], v: usize, r: usize, k: usize) -> bo
 
 // Walks row v, of rank r below the top, of a rack of n vertices.
 fn walk_row(rack: &[u8], tally: &mut [u16], v: usize, r: usize, n: usize) -> bool
-    requires { ⌜ Sized (now rack) ⌝ }
-    requires { ⌜ n ≤ most ⌝ }
+    requires { ⌜ Sized low (now rack) ⌝ }
+    requires { ⌜ n ≤ low .most ⌝ }
     requires { ⌜ v < n ⌝ }
     requires { ⌜ r ≡ rankAt (now rack) v ⌝ }
-    requires { ⌜ r < 4 ⌝ }
-    requires { ⌜ ((w : ℕ) → w < most → n ≤ w → T (ownsAt (now rack) v w) → ⊥) ⌝ }
-    requires { ⌜ Holds (now tally) (tallied (now rack) v) ⌝ }
-    ensures { λ a. ⌜ Says a (RightBelow (now (rack .entry)) v n) ⌝ }
-    ensures { λ a. ⌜ (T a → Holds (now (tally .exit)) (tallied (now (rack .entry)) (v + 1))) ⌝ }
+    requires { ⌜ r < low .levels ⌝ }
+    requires { ⌜ ((w : ℕ) → w < low .most → n ≤ w → T (ownsAt low (now rack) v w) → ⊥) ⌝ }
+    requires { ⌜ Holds low (now tally) (tallied low (now rack) v) ⌝ }
+    ensures { λ a. ⌜ Says a (RightBelow low (now (rack .entry)) v n) ⌝ }
+    ensures { λ a. ⌜ (T a → Holds low (now (tally .exit)) (tallied low (now (rack .entry)) (v + 1))) ⌝ }
 {
     let mut k = 0;
     while 64 * k < n {
@@ -85,11 +86,11 @@ fn walk_row(rack: &[u8], tally: &mut [u16], v: usize, r: usize, n: usize) -> boo
 
 // Walks one word of row v, of the top rank: its edges add to no count, and only a second owner is looked for.
 fn once_word(rack: &[u8], v: usize, k: usize) -> bool
-    requires { ⌜ Sized (now rack) ⌝ }
-    requires { ⌜ v < most ⌝ }
-    requires { ⌜ 64 * k < most ⌝ }
-    requires { ⌜ OnceBelow (now rack) v (64 * k) ⌝ }
-    ensures { λ a. ⌜ Says a (OnceBelow (now (rack .entry)) v (64 * k + 64)) ⌝ }
+    requires { ⌜ Sized low (now rack) ⌝ }
+    requires { ⌜ v < low .most ⌝ }
+    requires { ⌜ 64 * k < low .most ⌝ }
+    requires { ⌜ OnceBelow low (now rack) v (64 * k) ⌝ }
+    ensures { λ a. ⌜ Says a (OnceBelow low (now (rack .entry)) v (64 * k + 64)) ⌝ }
 {
     let mut x = layout::words::word(rack, v, k);
     while x != 0 {
@@ -104,9 +105,9 @@ fn once_word(rack: &[u8], v: usize, k: usize) -> bool
 
 // Walks row v, of the top rank, as far as v itself: the edges to higher numbers are seen from there.
 fn once_row(rack: &[u8], v: usize) -> bool
-    requires { ⌜ Sized (now rack) ⌝ }
-    requires { ⌜ v < most ⌝ }
-    ensures { λ a. ⌜ Says a (OnceBelow (now (rack .entry)) v (wordEnd v)) ⌝ }
+    requires { ⌜ Sized low (now rack) ⌝ }
+    requires { ⌜ v < low .most ⌝ }
+    ensures { λ a. ⌜ Says a (OnceBelow low (now (rack .entry)) v (wordEnd v)) ⌝ }
 {
     let mut k = 0;
     while 64 * k <= v {
@@ -120,12 +121,12 @@ fn once_row(rack: &[u8], v: usize) -> bool
 
 // Whether row v of a rack of n vertices is right, with the rows before it in the tally.
 fn row(rack: &[u8], tally: &mut [u16], v: usize, n: usize) -> bool
-    requires { ⌜ Sized (now rack) ⌝ }
-    requires { ⌜ n ≤ most ⌝ }
+    requires { ⌜ Sized low (now rack) ⌝ }
+    requires { ⌜ n ≤ low .most ⌝ }
     requires { ⌜ v < n ⌝ }
-    requires { ⌜ Holds (now tally) (tallied (now rack) v) ⌝ }
-    ensures { λ a. ⌜ Says a (Row (now (rack .entry)) n v) ⌝ }
-    ensures { λ a. ⌜ (T a → Holds (now (tally .exit)) (tallied (now (rack .entry)) (v + 1))) ⌝ }
+    requires { ⌜ Holds low (now tally) (tallied low (now rack) v) ⌝ }
+    ensures { λ a. ⌜ Says a (Row low (now (rack .entry)) n v) ⌝ }
+    ensures { λ a. ⌜ (T a → Holds low (now (tally .exit)) (tallied low (now (rack .entry)) (v + 1))) ⌝ }
 {
     if !layout::owns_none_from(rack, v, n) {
         return false;
@@ -143,11 +144,11 @@ fn row(rack: &[u8], tally: &mut [u16], v: usize, n: usize) -> bool
 
 // Whether every row is right, with all of them in the tally.
 pub fn all(rack: &[u8], tally: &mut [u16], n: usize) -> bool
-    requires { ⌜ Sized (now rack) ⌝ }
-    requires { ⌜ n ≤ most ⌝ }
-    requires { ⌜ Holds (now tally) (tallied (now rack) 0) ⌝ }
-    ensures { λ a. ⌜ Says a ((v : ℕ) → v < n → Row (now (rack .entry)) n v) ⌝ }
-    ensures { λ a. ⌜ (T a → Holds (now (tally .exit)) (tallied (now (rack .entry)) n)) ⌝ }
+    requires { ⌜ Sized low (now rack) ⌝ }
+    requires { ⌜ n ≤ low .most ⌝ }
+    requires { ⌜ Holds low (now tally) (tallied low (now rack) 0) ⌝ }
+    ensures { λ a. ⌜ Says a ((v : ℕ) → v < n → Row low (now (rack .entry)) n v) ⌝ }
+    ensures { λ a. ⌜ (T a → Holds low (now (tally .exit)) (tallied low (now (rack .entry)) n)) ⌝ }
 {
     let mut v = 0;
     while v < n {

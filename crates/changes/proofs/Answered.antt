@@ -1,9 +1,10 @@
 -- A change as a whole: which of its ends is which, and what it answers. Assumes nothing.
-use mathlib.Core.Path.{_≡_, refl, sym, ap, _∙_, subst}
+use mathlib.Core.Path.{_≡_, refl, sym, ap, ap₂, _∙_, subst}
 use mathlib.Core.Logic.{_≢_, inl, inr}
 use mathlib.Core.List.{List}
-use Prim.Native.Nat.{ℕ}
-use Rattle.model.specs.State.{base, State, edge, pairs}
+use Prim.Native.Nat.{ℕ, _<_}
+use Rattle.model.specs.Shape.{Shape, Good}
+use Rattle.model.specs.State.{base, Kind, State, edge, pairs}
 use Rattle.model.specs.Bytes.{read, write}
 use Rattle.model.specs.Valid.{Valid}
 use Rattle.model.specs.Change.{Change, Changed, lower, upper, add, drop, number, refused, done, accepted, change}
@@ -11,7 +12,7 @@ use Rattle.model.proofs.Tests.{eq?, le?, bool-ext, T-true, T-false, eqb-yes, eq
 use Rattle.model.proofs.Reading.{read-write}
 use Rattle.theory.proofs.Numbers.{Fitting, number-zero}
 use Rattle.theory.proofs.ChangeStep.{Step}
-use Rattle.theory.proofs.OnBytes.{step}
+use Rattle.theory.proofs.OnBytes.{Rack, step, next-rack}
 use Rattle.moves.proofs.Edges.{edge-turn}
 use Rattle.settling.specs.declared.tally.Tally.{Tally}
 use Rattle.changes.specs.declared.Answer.{Answer}
@@ -70,43 +71,60 @@ module _ (s : State) (c : Change) where
         drops = λ e. T-true {b = edge s (c .a) (c .b)} (f .present (elim (f .codes) [ inl k ↦ absurd (e k) | inr k ↦ k ]));
       }
 
--- bytes that write a valid state are sound
-pub sounded-of : (bs : List ℕ) (s : State) → bs ≡ write s → Valid base s → Sounded bs
-sounded-of bs s e ok =
-    let r : read bs ≡ s = ap read e ∙ read-write base s ok in
-    record { written = e ∙ ap write (sym r); valid = subst (Valid base) (sym r) ok }
+-- bytes that write a valid state read as it, and are sound
+module _ {S : Shape} (bs : List ℕ) (s : State) (of : s .kind .shape ≡ S) (e : bs ≡ write s) (ok : Rack s) where
+  pub rack-reads : read S bs ≡ s
+  rack-reads = ap₂ read (sym of) e ∙ read-write base s (ok .good) (ok .valid)
+
+  pub sounded-of : Sounded S bs
+  sounded-of = record {
+    good = subst Good of (ok .good);
+    room = subst (λ (S : Shape). base .top < S .levels) of (ok .room);
+    written = e ∙ ap write (sym rack-reads);
+    valid = subst (Valid base) (sym rack-reads) (ok .valid);
+  }
+
+-- the state that sound bytes read as
+pub sounded-rack : {S : Shape} {bs : List ℕ} → Sounded S bs → Rack (read S bs)
+unfolding read
+sounded-rack ok = record { good = ok .good; room = ok .room; valid = ok .valid }
 
 -- what the change answers, and what it leaves
-module _ {bs : List ℕ} (ok : Sounded bs) (c : Change) where
-  whole : Step base (read bs) c (change base (read bs) c)
-  whole = step (read bs) (ok .valid) c
+module _ {S : Shape} {bs : List ℕ} (ok : Sounded S bs) (c : Change) where
+  whole : Step base (read S bs) c (change base (read S bs) c)
+  whole = step (read S bs) (ok .valid) c
 
   -- refused: its number and zeros, and the rack as it was
-  pub refused-answer : (r : Answer) → r .number ≡ number (read bs .n) (edge (read bs)) c → r .number ≢ 0
-      → r .draws ≡ 0 → r .falls ≡ 0 → r .pairs ≡ 0 → Answers r (change base (read bs) c .answer)
+  pub refused-answer : (r : Answer) → r .number ≡ number (read S bs .n) (edge (read S bs)) c → r .number ≢ 0
+      → r .draws ≡ 0 → r .falls ≡ 0 → r .pairs ≡ 0 → Answers r (change base (read S bs) c .answer)
   unfolding refused
   refused-answer r e d p q o =
       let k = whole .refused-keeps (λ z. d (e ∙ sym (whole .number) ∙ z)) in
       rw (k .1) (record { number = e ∙ sym (whole .number); draws = p; falls = q; pairs = o })
 
-  pub refused-leaves : number (read bs .n) (edge (read bs)) c ≢ 0 → bs ≡ write (change base (read bs) c .state)
+  pub refused-leaves : number (read S bs .n) (edge (read S bs)) c ≢ 0 → bs ≡ write (change base (read S bs) c .state)
   refused-leaves d = ok .written ∙ ap write (sym (whole .refused-keeps (λ z. d (sym (whole .number) ∙ z)) .0))
 
   -- accepted: the run's
-  module _ (z : number (read bs .n) (edge (read bs)) c ≡ 0) where
-    run-is : change base (read bs) c ≡ done (acceptedRun (read bs) c)
-    run-is = whole .accepted-is (whole .number ∙ z) ∙ accepted-done (read bs) c
+  module _ (z : number (read S bs .n) (edge (read S bs)) c ≡ 0) where
+    run-is : change base (read S bs) c ≡ done (acceptedRun (read S bs) c)
+    run-is = whole .accepted-is (whole .number ∙ z) ∙ accepted-done (read S bs) c
 
-    run-valid : Valid base (acceptedRun (read bs) c .state)
+    -- the state that the run leaves
+    run-rack : Rack (acceptedRun (read S bs) c .state)
     unfolding done
-    run-valid = subst (λ (d : Changed). Valid base (d .state)) run-is (whole .valid)
+    run-rack = subst (λ (d : Changed). Rack (d .state)) run-is (next-rack (read S bs) (sounded-rack ok) c)
 
-    module _ {bs′ : List ℕ} {t : Tally} (x : Ended (acceptedRun (read bs) c) bs′ t) where
-      pub accepted-sounded : Sounded bs′
-      accepted-sounded = sounded-of bs′ _ (x .rack) run-valid
+    run-shape : acceptedRun (read S bs) c .state .kind .shape ≡ S
+    unfolding done read
+    run-shape = ap (λ (d : Changed). d .state .kind .shape) (sym run-is) ∙ ap (λ (K : Kind). K .shape) (whole .kind)
 
-      pub accepted-answer : (r : Answer) → r .number ≡ 0 → r .draws ≡ t .draws → r .falls ≡ t .falls → r .pairs ≡ pairs (read bs′)
-          → Answers r (change base (read bs) c .answer)
+    module _ {bs′ : List ℕ} {t : Tally} (x : Ended (acceptedRun (read S bs) c) bs′ t) where
+      pub accepted-sounded : Sounded S bs′
+      accepted-sounded = sounded-of bs′ _ run-shape (x .rack) run-rack
+
+      pub accepted-answer : (r : Answer) → r .number ≡ 0 → r .draws ≡ t .draws → r .falls ≡ t .falls → r .pairs ≡ pairs (read S bs′)
+          → Answers r (change base (read S bs) c .answer)
       unfolding done
       accepted-answer r e p q o =
           rw run-is
@@ -114,9 +132,9 @@ module _ {bs : List ℕ} (ok : Sounded bs) (c : Change) where
             number = e;
             draws = p ∙ x .draws;
             falls = q ∙ x .falls;
-            pairs = o ∙ ap pairs (ap read (x .rack) ∙ read-write base _ run-valid);
+            pairs = o ∙ ap pairs (rack-reads bs′ _ run-shape (x .rack) run-rack);
           })
 
-      pub accepted-leaves : bs′ ≡ write (change base (read bs) c .state)
+      pub accepted-leaves : bs′ ≡ write (change base (read S bs) c .state)
       unfolding done
       accepted-leaves = x .rack ∙ ap (λ (d : Changed). write (d .state)) (sym run-is)

@@ -7,7 +7,7 @@ use Prim.Native.Nat.{ℕ, zero, suc, _≤_, _<_}
 use native.Mathlib.Omega.{arith}
 use lib.Dec.{T, eqb, eqb→eq}
 use Rattle.model.specs.State.{base, State, below, phi, pending}
-use Rattle.model.specs.Bytes.{mateEntry}
+use Rattle.model.specs.Bytes.{noMate, mateEntry}
 use Rattle.model.specs.Valid.{Valid}
 use Rattle.model.specs.Moves.{none, found}
 use Rattle.model.specs.Change.{isEdge, withoutEdge, reown, owning, addEdge, riser}
@@ -117,7 +117,7 @@ riser-of a b (suc j) s i u l e = elim (le? (s .rank a) j) [
 ]
 
 -- the entry of a's mate names b exactly if b is its mate
-pub entry-names : (s : State) (a b : ℕ) → a ≢ b → b < 256 → mateEntry s a ≡ b → s .mate a ≡ b
+pub entry-names : (s : State) (a b : ℕ) → a ≢ b → b < noMate → mateEntry s a ≡ b → s .mate a ≡ b
 entry-names s a b d l e = elim (eq? (s .mate a) a) [
   | inl m ↦ absurd (omega (arith, mateEntry-free s a m))
   | inr m ↦ sym (mateEntry-mate s a m) ∙ e

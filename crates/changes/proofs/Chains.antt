@@ -5,8 +5,9 @@ use mathlib.Core.List.{List, [], _∷_, _++_}
 use Prim.Native.Nat.{ℕ, suc, _-_, _*_, _≤_, _<_}
 use native.Mathlib.Omega.{arith}
 use lib.ListN.{length, take}
+use Rattle.model.specs.Shape.{Shape}
 use Rattle.model.specs.State.{base, State}
-use Rattle.model.specs.Bytes.{most, read, write}
+use Rattle.model.specs.Bytes.{read, write}
 use Rattle.model.specs.Moves.{Run, part, promote, settleIn, settle}
 use Rattle.model.specs.Change.{start, startParted}
 use Rattle.model.proofs.Tests.{le?}
@@ -18,7 +19,7 @@ use Rattle.theory.proofs.Queues.{none-waits, lift-paired}
 use Rattle.theory.proofs.Waiting.{parted-lists, parted-queues}
 use Rattle.queue.proofs.Places.{length-first}
 use Rattle.moves.specs.Proper.{Proper, Ordered, Held}
-use Rattle.moves.proofs.Held.{held-of, reads-as}
+use Rattle.moves.proofs.Held.{held-few, held-of, reads-as}
 use Rattle.moves.proofs.Keeps.{part-proper}
 use Rattle.settling.specs.declared.tally.Tally.{Tally}
 use Rattle.settling.specs.Settling.{queueIn, running, HoldsWaiting, Requeued, Room, Left}
@@ -33,41 +34,41 @@ abbrev pub Fresh : Tally → Type 0
 Fresh t = (t .draws ≡ 0) × (t .falls ≡ 0) × (t .waiting ≡ 0)
 
 -- where nothing is pending, every free vertex has rank 0
-pub free-low : {bs : List ℕ} → Begun bs → (v : ℕ) → read bs .mate v ≡ v → read bs .rank v ≤ 0
-free-low {bs} g v h = elim (le? (read bs .rank v) 0) [
+pub free-low : {S : Shape} {bs : List ℕ} → Begun S bs → (v : ℕ) → read S bs .mate v ≡ v → read S bs .rank v ≤ 0
+free-low {S} {bs} g v h = elim (le? (read S bs .rank v) 0) [
   | inl z ↦ z
-  | inr z ↦ absurd (g .still v (read bs .rank v - 1) (pending-of (read bs) (read bs .rank v - 1) v h (omega arith)))
+  | inr z ↦ absurd (g .still v (read S bs .rank v - 1) (pending-of (read S bs) (read S bs .rank v - 1) v h (omega arith)))
 ]
 
 -- the queue of nobody
 pub nobody : (places : List ℕ) (t : Tally) → Fresh t → queueIn places t ≡ []
 nobody places t z = ap (λ (k : ℕ). take k places) (z .2)
 
-pub none-waiting : {places bs : List ℕ} {t : Tally} → length places ≡ most → Fresh t → Begun bs → HoldsWaiting places t (read bs)
-none-waiting {places} {bs} {t} e z b = record {
-  room = omega (arith, b .held .proper .few);
+pub none-waiting : {S : Shape} {places bs : List ℕ} {t : Tally} → length places ≡ S .most → Fresh t → Begun S bs → HoldsWaiting places t (read S bs)
+none-waiting {S} {places} {bs} {t} e z b = record {
+  room = omega (arith, held-few (b .held));
   within = omega (arith, z .2);
-  lists = rw (nobody places t z) (none-waits (read bs .n) (marks (read bs)) (free-low b));
+  lists = rw (nobody places t z) (none-waits (read S bs .n) (marks (read S bs)) (free-low b));
   paired = b .paired;
 }
 
 -- a tally of nothing begins a run
-pub begins : (bs places : List ℕ) {t : Tally} → Fresh t → SameRun (running bs places t) (start (read bs))
+pub begins : (S : Shape) (bs places : List ℕ) {t : Tally} → Fresh t → SameRun (running S bs places t) (start (read S bs))
 unfolding start
-begins bs places {t} z = record {
+begins S bs places {t} z = record {
   state = refl;
-  queues = ap (queuesIn (read bs .rank)) (nobody places t z) ∙ queues-none (read bs .rank);
+  queues = ap (queuesIn (read S bs .rank)) (nobody places t z) ∙ queues-none (read S bs .rank);
   draws = z .0;
   falls = z .1;
 }
 
 -- the settling begins at bs, places and t, where r has come
-pub record Onward (r : Run) (bs places : List ℕ) (t : Tally) : Type 0 where
-  pub held : Held bs
-  pub ordered : Ordered (read bs)
-  pub holds : HoldsWaiting places t (read bs)
+pub record Onward (S : Shape) (r : Run) (bs places : List ℕ) (t : Tally) : Type 0 where
+  pub held : Held S bs
+  pub ordered : Ordered (read S bs)
+  pub holds : HoldsWaiting places t (read S bs)
   pub room : Room 1 0 t
-  pub same : SameRun (running bs places t) r
+  pub same : SameRun (running S bs places t) r
 
 -- what is left of a run is left of any that differs in its new pairs alone
 ran-of : {r q : Run} {bs places : List ℕ} {t : Tally} → Left r bs places t → SameRun r q → Ended q bs t
@@ -81,28 +82,28 @@ settled-same words {r} {q} s =
     (ap (λ (x : State). x .n * suc (base .top)) (s .state)) (settle-same words (r .state .n * suc (base .top)) r q s)
 
 -- what the settling leaves is left of the whole
-pub settled-on : (words : List ℕ) {r : Run} {bs places bs′ places′ : List ℕ} {t t′ : Tally} → Onward r bs places t
-    → Left (settle base words (running bs places t)) bs′ places′ t′ → Ended (settle base words r) bs′ t′
+pub settled-on : {S : Shape} (words : List ℕ) {r : Run} {bs places bs′ places′ : List ℕ} {t t′ : Tally} → Onward S r bs places t
+    → Left (settle base words (running S bs places t)) bs′ places′ t′ → Ended (settle base words r) bs′ t′
 settled-on words n l = ran-of l (settled-same words (n .same))
 
 -- after the riser's promotion
-pub promoted-next : (words : List ℕ) (i u : ℕ) {bs₀ : List ℕ} (places₀ : List ℕ) {t₀ : Tally} → Begun bs₀ → Liftable (read bs₀) i u
-    → Fresh t₀ → {bs places : List ℕ} {t : Tally} → Left (promote words i u (running bs₀ places₀ t₀)) bs places t
-    → Onward (promote words i u (start (read bs₀))) bs places t
-promoted-next words i u {bs₀} places₀ {t₀} b m z {bs} {places} {t} l =
-    let r : Run = promote words i u (running bs₀ places₀ t₀) in
-    let k : SameEdges (read bs₀) (r .state) =
-    promote-kept words i u (running bs₀ places₀ t₀) (b .held .proper) (b .ordered) (m .inside) (m .level) (m .low) (m .some) in
-    let s : SameRun (running bs places t) r = left-run l (k .proper) in
+pub promoted-next : {S : Shape} (words : List ℕ) (i u : ℕ) {bs₀ : List ℕ} (places₀ : List ℕ) {t₀ : Tally} → Begun S bs₀ → Liftable (read S bs₀) i u
+    → Fresh t₀ → {bs places : List ℕ} {t : Tally} → Left (promote words i u (running S bs₀ places₀ t₀)) bs places t
+    → Onward S (promote words i u (start (read S bs₀))) bs places t
+promoted-next {S} words i u {bs₀} places₀ {t₀} b m z {bs} {places} {t} l =
+    let r : Run = promote words i u (running S bs₀ places₀ t₀) in
+    let k : SameEdges S (read S bs₀) (r .state) =
+    promote-kept words i u (running S bs₀ places₀ t₀) (b .held .proper) (b .ordered) (m .inside) (m .level) (m .low) (m .some) in
+    let s : SameRun (running S bs places t) r = left-run l (k .proper) in
     record {
       held = held-of bs (r .state) (l .rack) (k .proper);
       ordered = subst Ordered (sym (s .state)) (k .ordered);
       holds = subst (HoldsWaiting places t) (sym (s .state)) (l .holds);
       room = record {
-        draws = omega (arith, l .draws, promote-draws words i u (running bs₀ places₀ t₀));
-        falls = omega (arith, l .falls, promote-falls words i u (running bs₀ places₀ t₀));
+        draws = omega (arith, l .draws, promote-draws words i u (running S bs₀ places₀ t₀));
+        falls = omega (arith, l .falls, promote-falls words i u (running S bs₀ places₀ t₀));
       };
-      same = same-then s (promote-same words i u (begins bs₀ places₀ z));
+      same = same-then s (promote-same words i u (begins S bs₀ places₀ z));
     }
 
 -- where nobody waited, the first to join is the only one
@@ -111,36 +112,36 @@ one-waits places₀ places a t₀ t z q =
     sym (length-first (t .waiting) places (q .within)) ∙ ap length (q .queue ∙ ap (λ (l : List ℕ). l ++ (a ∷ [])) (nobody places₀ t₀ z))
 
 -- Parting a and b, which are mates: first one joined the queue, then the other.
-module _ {bs : List ℕ} (g : Begun bs) {a b : ℕ} (ends : (a < read bs .n) × (b < read bs .n) × (a ≢ b) × (read bs .mate a ≡ b))
-    (places₀ places₁ : List ℕ) {places : List ℕ} (t₀ t₁ : Tally) {t : Tally} (z : Fresh t₀) (long : length places ≡ most)
+module _ {S : Shape} {bs : List ℕ} (g : Begun S bs) {a b : ℕ} (ends : (a < read S bs .n) × (b < read S bs .n) × (a ≢ b) × (read S bs .mate a ≡ b))
+    (places₀ places₁ : List ℕ) {places : List ℕ} (t₀ t₁ : Tally) {t : Tally} (z : Fresh t₀) (long : length places ≡ S .most)
     (first : Requeued (queueIn places₀ t₀ ++ (a ∷ [])) t₀ places₁ t₁) (both : Requeued (queueIn places₁ t₁ ++ (b ∷ [])) t₁ places t) where
   two : queueIn places t ≡ a ∷ b ∷ []
   two = both .queue ∙ ap (λ (l : List ℕ). l ++ (b ∷ [])) (first .queue ∙ ap (λ (l : List ℕ). l ++ (a ∷ [])) (nobody places₀ t₀ z))
 
-  parted-holds : HoldsWaiting places t (part a (read bs))
+  parted-holds : HoldsWaiting places t (part a (read S bs))
   unfolding part
   parted-holds = record {
-    room = omega (arith, g .held .proper .few);
+    room = omega (arith, held-few (g .held));
     within = both .within;
-    lists = rw two (parted-lists (g .paired) (free-low g) (part-is a (read bs)) (ends .0) (ends .1) (ends .2) (ends .3));
-    paired = lift-paired (g .paired) (part-is a (read bs)) (ends .0);
+    lists = rw two (parted-lists (g .paired) (free-low g) (part-is a (read S bs)) (ends .0) (ends .1) (ends .2) (ends .3));
+    paired = lift-paired (g .paired) (part-is a (read S bs)) (ends .0);
   }
 
   -- where the parting leaves the run
-  pub parted-next : {bs′ : List ℕ} → bs′ ≡ write (part a (read bs)) → Onward (startParted a b (read bs)) bs′ places t
+  pub parted-next : {bs′ : List ℕ} → bs′ ≡ write (part a (read S bs)) → Onward S (startParted a b (read S bs)) bs′ places t
   unfolding startParted part
   parted-next {bs′} e =
-      let p : Proper (part a (read bs)) = part-proper (read bs) (g .held .proper) a (ends .0) in
-      let r : read bs′ ≡ part a (read bs) = reads-as bs′ (part a (read bs)) e p in
+      let p : Proper S (part a (read S bs)) = part-proper (read S bs) (g .held .proper) a (ends .0) in
+      let r : read S bs′ ≡ part a (read S bs) = reads-as bs′ (part a (read S bs)) e p in
       record {
-        held = held-of bs′ (part a (read bs)) e p;
+        held = held-of bs′ (part a (read S bs)) e p;
         ordered = subst Ordered (sym r) (g .ordered);
         holds = subst (HoldsWaiting places t) (sym r) parted-holds;
         room = record { draws = omega (arith, both .draws, first .draws, z .0); falls = omega (arith, both .falls, first .falls, z .1) };
         same = record {
           state = r;
-          queues = levels-as places t r ∙ ap (queuesIn (part a (read bs) .rank)) two
-              ∙ sym (parted-queues (g .paired) (free-low g) (part-is a (read bs)) (ends .0) (ends .1) (ends .2) (ends .3));
+          queues = levels-as places t r ∙ ap (queuesIn (part a (read S bs) .rank)) two
+              ∙ sym (parted-queues (g .paired) (free-low g) (part-is a (read S bs)) (ends .0) (ends .1) (ends .2) (ends .3));
           draws = omega (arith, both .draws, first .draws, z .0);
           falls = omega (arith, both .falls, first .falls, z .1);
         };

@@ -7,6 +7,7 @@ use Prim.Native.Nat.{ℕ, zero, suc, _/_, _≤_, _<_}
 use native.Mathlib.Omega.{arith}
 use lib.Dec.{eqb, ltb}
 use lib.ListN.{length}
+use Rattle.model.specs.Shape.{Shape}
 use Rattle.model.specs.State.{edge}
 use Rattle.model.specs.Bytes.{ownsAt, read}
 use Rattle.model.specs.Change.{Change, number}
@@ -105,12 +106,12 @@ module _ (n : ℕ) (there : ℕ → ℕ → Bool) (c : Change) where
       go false true true false false f = refl
 
 -- whether the edge is there, as the bytes have it
-pub edge-held : {bs : List ℕ} → Held bs → (a b : ℕ) → (a < read bs .n) × (b < read bs .n) × (a ≢ b)
-    → ownsAt bs a b || ownsAt bs b a ≡ edge (read bs) a b
+pub edge-held : {S : Shape} {bs : List ℕ} → Held S bs → (a b : ℕ) → (a < read S bs .n) × (b < read S bs .n) × (a ≢ b)
+    → ownsAt S bs a b || ownsAt S bs b a ≡ edge (read S bs) a b
 unfolding edge
-edge-held h a b e =
-    let la : a < 256 = held-small h a (e .0) in
-    let lb : b < 256 = held-small h b (e .1) in
+edge-held {S} h a b e =
+    let la : a < S .most = held-small h a (e .0) in
+    let lb : b < S .most = held-small h b (e .1) in
     ap₂ _||_ (held-owns h a b la lb) (held-owns h b a lb la)
 
 -- the number of the words

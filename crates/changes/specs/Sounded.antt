@@ -6,6 +6,7 @@ use mathlib.Core.List.{List}
 use Prim.Native.Nat.{ℕ, zero, suc, _/_, _≤_, _<_}
 use lib.Dec.{T, eqb, ltb}
 use lib.ListN.{length}
+use Rattle.model.specs.Shape.{Shape, Good}
 use Rattle.model.specs.State.{base, State, edge, below, pending}
 use Rattle.model.specs.Bytes.{read, write}
 use Rattle.model.specs.Valid.{Valid}
@@ -16,17 +17,19 @@ use Rattle.moves.specs.Proper.{Ordered, Held}
 use Rattle.settling.specs.declared.tally.Tally.{Tally}
 use Rattle.changes.specs.declared.Answer.{Answer}
 
--- the bytes are the writing of a valid state: exactly the sound racks are (model, proofs/Bridge.antt)
-pub record Sounded (bs : List ℕ) : Type 0 where
-  pub written : bs ≡ write (read bs)
-  pub valid : Valid base (read bs)
+-- the bytes are the writing of a valid state of a good shape, with room for the levels: exactly the sound racks are (model, proofs/Bridge.antt)
+pub record Sounded (S : Shape) (bs : List ℕ) : Type 0 where
+  pub good : Good S
+  pub room : base .top < S .levels
+  pub written : bs ≡ write (read S bs)
+  pub valid : Valid base (read S bs)
 
 -- where the moves of a change begin: a proper rack with owners in order and mates that name each other, on which nothing is pending
-pub record Begun (bs : List ℕ) : Type 0 where
-  pub held : Held bs
-  pub ordered : Ordered (read bs)
-  pub paired : Paired (read bs .n) (marks (read bs))
-  pub still : (v i : ℕ) → T (pending (read bs) i v) → ⊥
+pub record Begun (S : Shape) (bs : List ℕ) : Type 0 where
+  pub held : Held S bs
+  pub ordered : Ordered (read S bs)
+  pub paired : Paired (read S bs .n) (marks (read S bs))
+  pub still : (v i : ℕ) → T (pending (read S bs) i v) → ⊥
 
 -- u can be promoted to level i
 pub record Liftable (s : State) (i u : ℕ) : Type 0 where

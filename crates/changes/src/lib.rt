@@ -3,6 +3,7 @@ ghost use mathlib.Core.Path.{_≡_};
 ghost use mathlib.Core.Logic.{_≢_};
 ghost use mathlib.Core.Bool.{true, false};
 ghost use Prim.Native.Nat.{_<_};
+ghost use Rattle.model.specs.Shape.{low};
 ghost use Rattle.model.specs.State.{base, edge, pairs as pairsOf};
 ghost use Rattle.model.specs.Bytes.{read, write};
 ghost use Rattle.model.specs.Moves.{promote as promoted, settle as settled};
@@ -21,8 +22,8 @@ pub struct Answer {
 
 // The pairs held. In a sound rack a vertex is free exactly if its rank is 0, so that the vertices with a rank above 0 are twice as many.
 pub fn pairs(rack: &[u8]) -> u32
-    requires { ⌜ Sounded (now rack) ⌝ }
-    ensures { λ r. ⌜ r ≡ pairsOf (read (now (rack .entry))) ⌝ }
+    requires { ⌜ Sounded low (now rack) ⌝ }
+    ensures { λ r. ⌜ r ≡ pairsOf (read low (now (rack .entry))) ⌝ }
 {
     (layout::ranked(rack) / 2) as u32
 }
@@ -94,8 +95,8 @@ fn first(x: u32, y: u32) -> u32
 
 // The first of 7 to 12 that fits a change, or 0. The edge is looked for only if the boards named are two of the rack's.
 fn number(rack: &[u8], code: u32, a: u32, b: u32, words: &[u32]) -> u32
-    requires { ⌜ Held (now rack) ⌝ }
-    ensures { λ r. ⌜ r ≡ numberOf (read (now (rack .entry)) .n) (edge (read (now (rack .entry)))) (brought code a b (now (words .entry))) ⌝ }
+    requires { ⌜ Held low (now rack) ⌝ }
+    ensures { λ r. ⌜ r ≡ numberOf (read low (now (rack .entry)) .n) (edge (read low (now (rack .entry)))) (brought code a b (now (words .entry))) ⌝ }
 {
     let n = layout::size(rack);
     let by_code = code_number(code);
@@ -112,9 +113,9 @@ fn number(rack: &[u8], code: u32, a: u32, b: u32, words: &[u32]) -> u32
 
 // An add of an edge that is not there: a is the lower number.
 fn add(rack: &mut [u8], a: usize, b: usize, words: &[u32]) -> Tally
-    requires { ⌜ Sounded (now rack) ⌝ }
-    requires { ⌜ (a < read (now rack) .n) × (b < read (now rack) .n) × (a ≢ b) × (edge (read (now rack)) a b ≡ false) ⌝ }
-    ensures { λ r. ⌜ Ended (added base (now (words .entry)) a b (read (now (rack .entry)))) (now (rack .exit)) r ⌝ }
+    requires { ⌜ Sounded low (now rack) ⌝ }
+    requires { ⌜ (a < read low (now rack) .n) × (b < read low (now rack) .n) × (a ≢ b) × (edge (read low (now rack)) a b ≡ false) ⌝ }
+    ensures { λ r. ⌜ Ended (added base (now (words .entry)) a b (read low (now (rack .entry)))) (now (rack .exit)) r ⌝ }
 {
     edges::add_edge(rack, a, b);
     let edges::Reached::At { i, u } = edges::riser(rack, a, b) else {
@@ -125,9 +126,9 @@ fn add(rack: &mut [u8], a: usize, b: usize, words: &[u32]) -> Tally
 
 // "The riser's pair, if any, is parted; it rises, it draws, the settling follows."
 fn promote_and_settle(rack: &mut [u8], u: usize, i: usize, words: &[u32]) -> Tally
-    requires { ⌜ Begun (now rack) ⌝ }
-    requires { ⌜ Liftable (read (now rack)) i u ⌝ }
-    ensures { λ r. ⌜ Ended (settled base (now (words .entry)) (promoted (now (words .entry)) i u (start (read (now (rack .entry)))))) (now (rack .exit)) r ⌝ }
+    requires { ⌜ Begun low (now rack) ⌝ }
+    requires { ⌜ Liftable (read low (now rack)) i u ⌝ }
+    ensures { λ r. ⌜ Ended (settled base (now (words .entry)) (promoted (now (words .entry)) i u (start (read low (now (rack .entry)))))) (now (rack .exit)) r ⌝ }
 {
     let mut queue = layout::places();
     let t = settling::promote(rack, &mut queue, words, u, i, Tally::new());
@@ -136,9 +137,9 @@ fn promote_and_settle(rack: &mut [u8], u: usize, i: usize, words: &[u32]) -> Tal
 
 // "part them and settle": a's mate is b. "Parting by a drop puts the lower number first.", which is a.
 fn part_and_settle(rack: &mut [u8], a: usize, b: usize, words: &[u32]) -> Tally
-    requires { ⌜ Begun (now rack) ⌝ }
-    requires { ⌜ (a < read (now rack) .n) × (b < read (now rack) .n) × (a ≢ b) × (read (now rack) .mate a ≡ b) ⌝ }
-    ensures { λ r. ⌜ Ended (settled base (now (words .entry)) (startParted a b (read (now (rack .entry))))) (now (rack .exit)) r ⌝ }
+    requires { ⌜ Begun low (now rack) ⌝ }
+    requires { ⌜ (a < read low (now rack) .n) × (b < read low (now rack) .n) × (a ≢ b) × (read low (now rack) .mate a ≡ b) ⌝ }
+    ensures { λ r. ⌜ Ended (settled base (now (words .entry)) (startParted a b (read low (now (rack .entry))))) (now (rack .exit)) r ⌝ }
 {
     let mut queue = layout::places();
     let first = settling::join(&mut queue, a, Tally::new());
@@ -149,9 +150,9 @@ fn part_and_settle(rack: &mut [u8], a: usize, b: usize, words: &[u32]) -> Tally
 
 // A drop of an edge that is there: a is the lower number. "If its ends were mates, part them and settle."
 fn drop(rack: &mut [u8], a: usize, b: usize, words: &[u32]) -> Tally
-    requires { ⌜ Sounded (now rack) ⌝ }
-    requires { ⌜ (a < read (now rack) .n) × (b < read (now rack) .n) × (a ≢ b) × (edge (read (now rack)) a b ≡ true) ⌝ }
-    ensures { λ r. ⌜ Ended (dropped base (now (words .entry)) a b (read (now (rack .entry)))) (now (rack .exit)) r ⌝ }
+    requires { ⌜ Sounded low (now rack) ⌝ }
+    requires { ⌜ (a < read low (now rack) .n) × (b < read low (now rack) .n) × (a ≢ b) × (edge (read low (now rack)) a b ≡ true) ⌝ }
+    ensures { λ r. ⌜ Ended (dropped base (now (words .entry)) a b (read low (now (rack .entry)))) (now (rack .exit)) r ⌝ }
 {
     edges::drop_edge(rack, a, b);
     if layout::mate(rack, a) as usize == b {
@@ -182,9 +183,9 @@ fn upper(a: usize, b: usize) -> usize
 
 // A change that none of the numbers fits.
 fn accepted(rack: &mut [u8], code: u32, a: usize, b: usize, words: &[u32]) -> Tally
-    requires { ⌜ Sounded (now rack) ⌝ }
-    requires { ⌜ Acceptable (read (now rack)) code a b ⌝ }
-    ensures { λ r. ⌜ Ended (acceptedRun (read (now (rack .entry))) (brought code a b (now (words .entry)))) (now (rack .exit)) r ⌝ }
+    requires { ⌜ Sounded low (now rack) ⌝ }
+    requires { ⌜ Acceptable (read low (now rack)) code a b ⌝ }
+    ensures { λ r. ⌜ Ended (acceptedRun (read low (now (rack .entry))) (brought code a b (now (words .entry)))) (now (rack .exit)) r ⌝ }
 {
     let low = lower(a, b);
     let high = upper(a, b);
@@ -196,9 +197,9 @@ fn accepted(rack: &mut [u8], code: u32, a: usize, b: usize, words: &[u32]) -> Ta
 
 // One change of a sound rack, without the audit.
 pub fn change(rack: &mut [u8], code: u32, a: u32, b: u32, words: &[u32]) -> Answer
-    requires { ⌜ Sounded (now rack) ⌝ }
-    ensures answers { λ r. ⌜ Answers r (changeOf base (read (now (rack .entry))) (brought code a b (now (words .entry))) .answer) ⌝ }
-    ensures leaves { λ _. ⌜ now (rack .exit) ≡ write (changeOf base (read (now (rack .entry))) (brought code a b (now (words .entry))) .state) ⌝ }
+    requires { ⌜ Sounded low (now rack) ⌝ }
+    ensures answers { λ r. ⌜ Answers r (changeOf base (read low (now (rack .entry))) (brought code a b (now (words .entry))) .answer) ⌝ }
+    ensures leaves { λ _. ⌜ now (rack .exit) ≡ write (changeOf base (read low (now (rack .entry))) (brought code a b (now (words .entry))) .state) ⌝ }
 {
     let refused = number(rack, code, a, b, words);
     if refused != 0 {

@@ -1,16 +1,19 @@
 -- A drop on the bytes: both ends' bits, and what an edge less needs. Assumes nothing.
-use mathlib.Core.Path.{_≡_, refl}
+use mathlib.Core.Path.{_≡_, refl, subst}
 use mathlib.Core.Logic.{_≢_}
 use mathlib.Core.Bool.{true, false}
-use Prim.Native.Nat.{ℕ, _<_}
+use Prim.Native.Nat.{ℕ, suc, _<_}
 use native.Mathlib.Omega.{arith}
 use lib.Dec.{T}
+use Rattle.model.specs.Shape.{Shape}
 use Rattle.model.specs.State.{base, State, edge}
 use Rattle.model.specs.Bytes.{image, write}
 use Rattle.model.specs.Change.{reown}
+use Rattle.model.proofs.Shapes.{Full}
 use Rattle.layout.specs.Setters.{disown}
 use Rattle.moves.specs.Proper.{Proper}
 use Rattle.moves.specs.Counts.{step}
+use Rattle.moves.proofs.Held.{proper-few}
 use Rattle.edges.specs.Steps.{Countable}
 use Rattle.edges.proofs.Joined.{EdgeMore, edges-more}
 use Rattle.edges.proofs.Changed.{dropEdge, drop-joined, drop-here, drop-back, drop-rest}
@@ -19,25 +22,28 @@ use Rattle.edges.proofs.Stages.{turned, disown-turned}
 use Rattle.edges.proofs.EdgeSteps.{EdgeStep, step-countable}
 
 -- the edge can be dropped
-pub record Droppable (a b : ℕ) (s : State) : Type 0 where
-  pub proper : Proper s
+pub record Droppable (S : Shape) (a b : ℕ) (s : State) : Type 0 where
+  pub proper : Proper S s
+  pub full : Full S
   pub apart : a ≢ b
   pub inside : (a < s .n) × (b < s .n)
   pub there : T (edge s a b)
 
-module _ (a b : ℕ) (s : State) (D : Droppable a b s) where
-  pub a-small : a < 256
-  a-small = omega (arith, D .inside .0, D .proper .few)
+module _ {S : Shape} (a b : ℕ) (s : State) (D : Droppable S a b s) where
+  pub a-small : a < S .most
+  a-small = omega (arith, D .inside .0, proper-few (D .proper))
 
-  pub b-small : b < 256
-  b-small = omega (arith, D .inside .1, D .proper .few)
+  pub b-small : b < S .most
+  b-small = omega (arith, D .inside .1, proper-few (D .proper))
 
   joined : EdgeMore a b (dropEdge a b s) s
   joined = drop-joined a b s (D .apart) (D .inside) (D .there)
 
   -- the owner's bit, and the other end's, which is clear
-  pub disown-both : disown (disown (write s) a b) b a ≡ image (turned s (dropEdge a b s))
-  disown-both = disown-turned s (dropEdge a b s) a b a-small b-small (drop-rest a b s) (drop-here a b s) (drop-back a b s)
+  pub disown-both : disown S (disown S (write s) a b) b a ≡ image (turned s (dropEdge a b s))
+  disown-both =
+      subst (λ (T : Shape). a < T .most → b < T .most → disown T (disown T (write s) a b) b a ≡ image (turned s (dropEdge a b s))) (D .proper .shape)
+      (λ l k. disown-turned s (dropEdge a b s) (D .proper .good) a b l k (drop-rest a b s) (drop-here a b s) (drop-back a b s)) a-small b-small
 
   -- the counts and the number of edges
   module _ (j : ℕ) (H : Higher a b j s) where
@@ -45,21 +51,26 @@ module _ (a b : ℕ) (s : State) (D : Droppable a b s) where
     unfolding reown
     more = gained a b j (dropEdge a b s) s joined (record { a-low = H .a-low; b-low = H .b-low; least = H .least })
 
-    pub drop-step : EdgeStep a b j false s (dropEdge a b s)
-    unfolding base reown
+    pub drop-step : EdgeStep S a b j false s (dropEdge a b s)
+    unfolding reown
     drop-step = record {
+      proper = D .proper;
+      full = D .full;
       shifted = lost a b j s (dropEdge a b s) more;
+      kind = refl;
       size = refl;
       rank = λ v. refl;
       mate = λ v. refl;
       number = omega (arith, edges-more a b (dropEdge a b s) s joined);
-      level = H .least 4 (D .proper .ranks a) (D .proper .ranks b);
+      level = H .least (suc (base .top)) (D .proper .ranks a) (D .proper .ranks b);
       a-in = a-small;
       b-in = b-small;
     }
 
-    pub drop-countable : Countable false (image (turned s (dropEdge a b s))) a b j
+    pub drop-countable : Countable S false (image (turned s (dropEdge a b s))) a b j
     drop-countable =
-        step-countable a b j false s (dropEdge a b s) drop-step
-        (λ x l. omega (arith, more .on-a x l)) (λ x l. omega (arith, more .on-b x l))
-        (omega (arith, edges-more a b (dropEdge a b s) s joined))
+        step-countable a b j false s (dropEdge a b s) drop-step (record {
+          of-a = λ x l. omega (arith, more .on-a x l);
+          of-b = λ x l. omega (arith, more .on-b x l);
+          of-edges = omega (arith, edges-more a b (dropEdge a b s) s joined);
+        })

@@ -3,12 +3,15 @@
 use mathlib.Core.Path.{_≡_, sym, ap, _∙_, subst}
 use mathlib.Core.Bool.{Bool}
 use mathlib.Core.List.{List}
-use Prim.Native.Nat.{ℕ, _+_, _-_, _≤_, _<_}
+use Prim.Native.Nat.{ℕ, suc, _+_, _-_, _≤_, _<_}
 use native.Mathlib.Omega.{arith}
+use Rattle.model.specs.Shape.{Shape, Good}
 use Rattle.model.specs.State.{base, State, phi, edges}
 use Rattle.model.specs.Bytes.{edgesAt, phiAt, image, write}
+use Rattle.model.proofs.Shapes.{Full}
 use Rattle.layout.specs.Setters.{setEdges}
-use Rattle.moves.specs.Counts.{withCounts, step, CanStep}
+use Rattle.moves.specs.Proper.{Proper}
+use Rattle.moves.specs.Counts.{withCounts, step, CanStep, largestCount, largestEdges}
 use Rattle.moves.proofs.CountSteps.{recounted-image}
 use Rattle.moves.proofs.Owning.{ownersOf}
 use Rattle.edges.specs.Steps.{recountedFrom, edgeCounted, Countable}
@@ -16,53 +19,85 @@ use Rattle.edges.proofs.Shifted.{Shifted, both, half, half-there, half-
 use Rattle.edges.proofs.Stages.{turned, halfway, counted, turned-phi, halfway-phi, counted-edges, edges-written}
 
 -- t is s with other owners, such that the counts of a and b from level j on and the number of edges are one more, or one less
-pub record EdgeStep (a b j : ℕ) (more : Bool) (s t : State) : Type 0 where
+pub record EdgeStep (S : Shape) (a b j : ℕ) (more : Bool) (s t : State) : Type 0 where
+  pub proper : Proper S s
+  pub full : Full S
   pub shifted : Shifted a b j (step more) s t
+  pub kind : t .kind ≡ s .kind
   pub size : t .n ≡ s .n
   pub rank : (v : ℕ) → t .rank v ≡ s .rank v
   pub mate : (v : ℕ) → t .mate v ≡ s .mate v
   pub number : edges t ≡ step more (edges s)
-  pub level : j ≤ 4
-  pub a-in : a < 256
-  pub b-in : b < 256
+  pub level : j ≤ suc (base .top)
+  pub a-in : a < S .most
+  pub b-in : b < S .most
 
-module _ (a b j : ℕ) (more : Bool) (s t : State) (S : EdgeStep a b j more s t) where
-  all : j + (4 - j) ≡ 4
-  all = omega (arith, S .level)
+-- there is room for it in the counts of both ends and in the number of edges
+pub record Room (S : Shape) (a b j : ℕ) (more : Bool) (s : State) : Type 0 where
+  pub of-a : (x : ℕ) → j ≤ x → CanStep more (largestCount S) (phi s a x)
+  pub of-b : (x : ℕ) → j ≤ x → CanStep more (largestCount S) (phi s b x)
+  pub of-edges : CanStep more (largestEdges S) (edges s)
 
-  first : recountedFrom more (image (turned s t)) a j ≡ image (halfway a s t)
-  unfolding base turned halfway ownersOf
+-- in the shape that s names
+module _ (a b j : ℕ) (more : Bool) (s t : State) (E : EdgeStep (s .kind .shape) a b j more s t) where
+  abbrev of : Shape
+  of = s .kind .shape
+
+  abbrev good : Good of
+  good = E .proper .good
+
+  abbrev above : ℕ
+  above = suc (base .top) - j
+
+  all : j + above ≡ of .levels
+  all = omega (arith, E .level, E .full)
+
+  first : recountedFrom of more (image (turned s t)) a j ≡ image (halfway a s t)
+  unfolding turned halfway ownersOf
   first =
-      recounted-image (step more) (turned s t) a j (4 - j) (half a s t) (S .a-in) (omega (arith, all))
-      (half-on a b j (4 - j) (step more) s t (S .shifted) all) (half-off a b j (4 - j) (step more) s t (S .shifted) all)
+      recounted-image (step more) (turned s t) good a j above (half a s t) (E .a-in) (omega (arith, all))
+      (half-on a b j above (step more) s t (E .shifted) all) (half-off a b j above (step more) s t (E .shifted) all)
 
-  second : recountedFrom more (image (halfway a s t)) b j ≡ image (counted s t)
-  unfolding base halfway counted withCounts
+  second : recountedFrom of more (image (halfway a s t)) b j ≡ image (counted s t)
+  unfolding turned halfway counted withCounts ownersOf
   second =
-      recounted-image (step more) (halfway a s t) b j (4 - j) (both s t) (S .b-in) (omega (arith, all))
-      (both-on a b j (4 - j) (step more) s t (S .shifted) all) (both-off a b j (4 - j) (step more) s t (S .shifted) all)
+      recounted-image (step more) (halfway a s t) good b j above (both s t) (E .b-in) (omega (arith, all))
+      (both-on a b j above (step more) s t (E .shifted) all) (both-off a b j above (step more) s t (E .shifted) all)
 
-  ends : recountedFrom more (recountedFrom more (image (turned s t)) a j) b j ≡ image (counted s t)
-  ends = ap (λ (bs : List ℕ). recountedFrom more bs b j) first ∙ second
+  ends : recountedFrom of more (recountedFrom of more (image (turned s t)) a j) b j ≡ image (counted s t)
+  ends = ap (λ (bs : List ℕ). recountedFrom of more bs b j) first ∙ second
 
-  pub step-written : edgeCounted more (image (turned s t)) a b j ≡ write t
+  ends-edges : edgesAt of (image (counted s t)) ≡ edges s
+  ends-edges = counted-edges s t good (E .proper .few)
+
+  written : edgeCounted of more (image (turned s t)) a b j ≡ write t
   unfolding edgeCounted
-  step-written =
-      ap (λ (bs : List ℕ). setEdges bs (step more (edgesAt bs))) ends
-      ∙ ap (setEdges (image (counted s t))) (ap (step more) (counted-edges s t) ∙ sym (S .number))
-      ∙ edges-written s t (S .size) (S .rank) (S .mate)
+  written =
+      ap (λ (bs : List ℕ). setEdges of bs (step more (edgesAt of bs))) ends
+      ∙ ap (setEdges of (image (counted s t))) (ap (step more) ends-edges ∙ sym (E .number))
+      ∙ edges-written s t good (E .kind) (E .size) (E .rank) (E .mate)
 
-  pub step-countable : ((x : ℕ) → j ≤ x → CanStep more 255 (phi s a x)) → ((x : ℕ) → j ≤ x → CanStep more 255 (phi s b x))
-      → CanStep more 65535 (edges s) → Countable more (image (turned s t)) a b j
-  unfolding base
-  step-countable of-a of-b of-edges = record {
-    a-in = S .a-in;
-    b-in = S .b-in;
-    level = S .level;
-    of-a = λ x l h. subst (CanStep more 255) (sym (turned-phi s t a x (S .a-in) (omega arith))) (of-a x l);
+  countable : Room of a b j more s → Countable of more (image (turned s t)) a b j
+  countable r = record {
+    a-in = E .a-in;
+    b-in = E .b-in;
+    level = E .level;
+    of-a = λ x l h.
+        subst (CanStep more (largestCount of)) (sym (turned-phi s t good a x (E .a-in) (omega (arith, E .full)))) (r .of-a x l);
     of-b = λ x l h.
-        let e : phiAt (recountedFrom more (image (turned s t)) a j) b x ≡ phi s b x =
-        ap (λ (bs : List ℕ). phiAt bs b x) first ∙ halfway-phi s t a b x (S .b-in) (omega arith)
-        ∙ half-there a s t b x (λ e. S .shifted .apart (sym e)) in subst (CanStep more 255) (sym e) (of-b x l);
-    of-edges = subst (CanStep more 65535) (sym (ap edgesAt ends ∙ counted-edges s t)) of-edges;
+        let e : phiAt of (recountedFrom of more (image (turned s t)) a j) b x ≡ phi s b x =
+        ap (λ (bs : List ℕ). phiAt of bs b x) first ∙ halfway-phi s t good a b x (E .b-in) (omega (arith, E .full))
+        ∙ half-there a s t b x (λ e. E .shifted .apart (sym e)) in subst (CanStep more (largestCount of)) (sym e) (r .of-b x l);
+    of-edges = subst (CanStep more (largestEdges of)) (sym (ap (edgesAt of) ends ∙ ends-edges)) (r .of-edges);
   }
+
+module _ {S : Shape} (a b j : ℕ) (more : Bool) (s t : State) (E : EdgeStep S a b j more s t) where
+  pub step-written : edgeCounted S more (image (turned s t)) a b j ≡ write t
+  step-written =
+      subst (λ (T : Shape). EdgeStep T a b j more s t → edgeCounted T more (image (turned s t)) a b j ≡ write t) (E .proper .shape)
+      (written a b j more s t) E
+
+  pub step-countable : Room S a b j more s → Countable S more (image (turned s t)) a b j
+  step-countable =
+      subst (λ (T : Shape). EdgeStep T a b j more s t → Room T a b j more s → Countable T more (image (turned s t)) a b j) (E .proper .shape)
+      (countable a b j more s t) E

@@ -7,6 +7,7 @@ use native.Mathlib.Omega.{arith}
 use mathlib.Core.List.{List}
 use lib.Dec.{ltb}
 use Rattle.model.specs.Counting.{upd}
+use Rattle.model.specs.Shape.{Shape}
 use Rattle.model.specs.State.{State, phi}
 use Rattle.model.specs.Bytes.{rankAt, read}
 use Rattle.model.proofs.Tests.{eq?, le?, leb-yes, leb-no}
@@ -23,8 +24,8 @@ pub record Higher (a b j : ℕ) (s : State) : Type 0 where
   pub least : (x : ℕ) → s .rank a ≤ x → s .rank b ≤ x → j ≤ x
 
 -- the higher of the rank bytes, as the code finds it
-pub higher-of : {bs : List ℕ} → Held bs → (a b : ℕ) → a < 256 → b < 256 → {x y r : ℕ} → x ≡ rankAt bs a → y ≡ rankAt bs b
-    → (x ≤ r) × (y ≤ r) × ((z : ℕ) → x ≤ z → y ≤ z → r ≤ z) → Higher a b r (read bs)
+pub higher-of : {S : Shape} {bs : List ℕ} → Held S bs → (a b : ℕ) → a < S .most → b < S .most → {x y r : ℕ} → x ≡ rankAt bs a → y ≡ rankAt bs b
+    → (x ≤ r) × (y ≤ r) × ((z : ℕ) → x ≤ z → y ≤ z → r ≤ z) → Higher a b r (read S bs)
 higher-of h a b l k e f m =
     let c = held-rank h a l in
     let d = held-rank h b k in
@@ -75,15 +76,15 @@ lost a b j s t g = record {
 
 -- the counts of t at the levels that the bytes hold, and those of s above
 unfoldable pub both : State → State → ℕ → ℕ → ℕ
-both s t v x = elim (ltb x 4) [ true ↦ phi t v x | false ↦ phi s v x ]
+both s t v x = elim (ltb x (s .kind .shape .levels)) [ true ↦ phi t v x | false ↦ phi s v x ]
 
-pub both-held : (s t : State) (v x : ℕ) → x < 4 → both s t v x ≡ phi t v x
+pub both-held : (s t : State) (v x : ℕ) → x < s .kind .shape .levels → both s t v x ≡ phi t v x
 unfolding both
-both-held s t v x l = rw (leb-yes (suc x) 4 l, both) refl
+both-held s t v x l = rw (leb-yes (suc x) (s .kind .shape .levels) l, both) refl
 
-both-past : (s t : State) (v x : ℕ) → 4 ≤ x → both s t v x ≡ phi s v x
+both-past : (s t : State) (v x : ℕ) → s .kind .shape .levels ≤ x → both s t v x ≡ phi s v x
 unfolding both
-both-past s t v x l = rw (leb-no (suc x) 4 (omega arith), both) refl
+both-past s t v x l = rw (leb-no (suc x) (s .kind .shape .levels) (omega arith), both) refl
 
 -- the counts when those of a have changed
 unfoldable pub half : ℕ → State → State → ℕ → ℕ → ℕ
@@ -98,36 +99,36 @@ pub half-there : (a : ℕ) (s t : State) (v x : ℕ) → v ≢ a → half a s t 
 unfolding half
 half-there a s t v x d = ap (λ (r : ℕ → ℕ). r x) (upd-other (phi s) a (both s t a) v d)
 
-module _ (a b j k : ℕ) (δ : ℕ → ℕ) (s t : State) (S : Shifted a b j δ s t) (all : j + k ≡ 4) where
+module _ (a b j k : ℕ) (δ : ℕ → ℕ) (s t : State) (G : Shifted a b j δ s t) (all : j + k ≡ s .kind .shape .levels) where
   pub half-on : (x : ℕ) → j ≤ x → x < j + k → half a s t a x ≡ δ (phi s a x)
-  half-on x l h = half-here a s t a x refl ∙ both-held s t a x (omega arith) ∙ S .on-a x l
+  half-on x l h = half-here a s t a x refl ∙ both-held s t a x (omega arith) ∙ G .on-a x l
 
   pub half-off : (v x : ℕ) → (v ≡ a → j ≤ x → x < j + k → ⊥) → half a s t v x ≡ phi s v x
   half-off v x d = elim (eq? v a) [
     | inr e ↦ half-there a s t v x e
-    | inl e ↦ half-here a s t v x e ∙ elim (le? 4 x) [
+    | inl e ↦ half-here a s t v x e ∙ elim (le? (s .kind .shape .levels) x) [
       | inl l ↦ both-past s t v x l
       | inr l ↦ both-held s t v x l ∙ elim (le? j x) [
         | inl h ↦ absurd (d e h (omega arith))
-        | inr h ↦ ap (λ (y : ℕ). phi t y x) e ∙ S .low-a x h ∙ ap (λ (y : ℕ). phi s y x) (sym e)
+        | inr h ↦ ap (λ (y : ℕ). phi t y x) e ∙ G .low-a x h ∙ ap (λ (y : ℕ). phi s y x) (sym e)
       ]
     ]
   ]
 
   pub both-on : (x : ℕ) → j ≤ x → x < j + k → both s t b x ≡ δ (half a s t b x)
   both-on x l h =
-      both-held s t b x (omega arith) ∙ S .on-b x l ∙ ap δ (sym (half-there a s t b x (λ e. S .apart (sym e))))
+      both-held s t b x (omega arith) ∙ G .on-b x l ∙ ap δ (sym (half-there a s t b x (λ e. G .apart (sym e))))
 
   pub both-off : (v x : ℕ) → (v ≡ b → j ≤ x → x < j + k → ⊥) → both s t v x ≡ half a s t v x
   both-off v x d = elim (eq? v a) [
     | inl e ↦ sym (half-here a s t v x e)
-    | inr e ↦ elim (le? 4 x) [
+    | inr e ↦ elim (le? (s .kind .shape .levels) x) [
       | inl l ↦ both-past s t v x l
       | inr l ↦ both-held s t v x l ∙ elim (eq? v b) [
-        | inr f ↦ S .rest v x e f
+        | inr f ↦ G .rest v x e f
         | inl f ↦ elim (le? j x) [
           | inl h ↦ absurd (d f h (omega arith))
-          | inr h ↦ ap (λ (y : ℕ). phi t y x) f ∙ S .low-b x h ∙ ap (λ (y : ℕ). phi s y x) (sym f)
+          | inr h ↦ ap (λ (y : ℕ). phi t y x) f ∙ G .low-b x h ∙ ap (λ (y : ℕ). phi s y x) (sym f)
         ]
       ]
     ] ∙ sym (half-there a s t v x e)

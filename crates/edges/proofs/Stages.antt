@@ -1,17 +1,20 @@
 -- The bytes on the way from a state to one with other owners: first the owners, then the counts of one end and of the other, and last the
 -- number of edges. Assumes nothing.
-use mathlib.Core.Path.{_≡_, refl, sym, ap, _∙_}
+use mathlib.Core.Path.{_≡_, refl, sym, ap, _∙_, subst}
 use mathlib.Core.Logic.{_≢_}
 use mathlib.Core.Bool.{Bool, true, false}
 use mathlib.Core.List.{List}
-use Prim.Native.Nat.{ℕ, _<_}
+use Prim.Native.Nat.{ℕ, _≤_, _<_}
 use lib.Dec.{eqb}
+use Rattle.model.specs.Shape.{Shape, Good}
 use Rattle.model.specs.State.{State, phi, edges}
 use Rattle.model.specs.Bytes.{noMate, edgesAt, phiAt, Fields, image, mateEntry, fieldsOf, write}
 use Rattle.model.proofs.Fields.{image-length, edges-image, phi-image}
+use Rattle.model.proofs.Limits.{edges-fit}
 use Rattle.layout.specs.Setters.{Sized, setEdges, own, disown}
 use Rattle.layout.proofs.Images.{image-ext, withEdges, withOwns, setEdges-image, own-image, disown-image}
 use Rattle.layout.proofs.Tables.{entry-is}
+use Rattle.moves.specs.Proper.{Proper}
 use Rattle.moves.specs.Counts.{withCounts}
 use Rattle.moves.proofs.Owning.{ownersOf}
 use Rattle.edges.proofs.Shifted.{both, both-held, half}
@@ -30,56 +33,62 @@ halfway a s t = withCounts (turned s t) (half a s t)
 unfoldable pub counted : State → State → Fields
 counted s t = withCounts (turned s t) (both s t)
 
--- the owner's bit set, and both ends' bits cleared
-module _ (s t : State) (o e : ℕ) (x : o < 256) (y : e < 256) where
-  pub own-turned : ((v w : ℕ) → (v ≡ o → w ≢ e) → t .owns v w ≡ s .owns v w) → t .owns o e ≡ true → own (write s) o e ≡ image (turned s t)
-  unfolding write fieldsOf turned withOwns ownersOf
-  own-turned off on =
-      own-image (fieldsOf s) o e x y
-      ∙ owners-ext s (withOwns (fieldsOf s) o e true) (t .owns) refl (λ v w. sym (entry-is (s .owns) o e true (t .owns) v w on (off v w)))
-
-  pub disown-turned : ((v w : ℕ) → (v ≡ o → w ≢ e) → (v ≡ e → w ≢ o) → t .owns v w ≡ s .owns v w) → t .owns o e ≡ false
-      → t .owns e o ≡ false → disown (disown (write s) o e) e o ≡ image (turned s t)
-  unfolding write fieldsOf turned withOwns ownersOf
-  disown-turned off on back =
-      let once : Fields = withOwns (fieldsOf s) o e false in
-      ap (λ (bs : List ℕ). disown bs e o) (disown-image (fieldsOf s) o e x y) ∙ disown-image once e o y x
-      ∙ owners-ext s (withOwns once e o false) (t .owns) refl
-      (λ v w. sym (entry-is (once .owns) e o false (t .owns) v w back (λ d. entry-is (s .owns) o e false (t .owns) v w on (λ c. off v w c d))))
-
--- what the stages hold
-module _ (s t : State) where
-  pub turned-sized : Sized (image (turned s t))
-  turned-sized = image-length (turned s t)
-
-  pub turned-phi : (v x : ℕ) → v < 256 → x < 4 → phiAt (image (turned s t)) v x ≡ phi s v x
-  unfolding turned ownersOf
-  turned-phi v x l k = phi-image (turned s t) v x l k
-
-  pub halfway-phi : (a v x : ℕ) → v < 256 → x < 4 → phiAt (image (halfway a s t)) v x ≡ half a s t v x
-  unfolding halfway withCounts
-  halfway-phi a v x l k = phi-image (halfway a s t) v x l k
-
-  pub counted-edges : edgesAt (image (counted s t)) ≡ edges s
-  unfolding counted withCounts turned ownersOf
-  counted-edges = edges-image (counted s t)
+-- the first of them is as long as a rack
+pub turned-sized : {S : Shape} (s t : State) → Proper S s → Sized S (image (turned s t))
+unfolding turned ownersOf
+turned-sized s t p = subst (λ (T : Shape). Sized T (image (turned s t))) (p .shape) (image-length (turned s t) (p .good))
 
 -- vertices with the same mate have the same entry for it
 entry-same : (s t : State) (v : ℕ) → t .mate v ≡ s .mate v → mateEntry s v ≡ mateEntry t v
 unfolding mateEntry
 entry-same s t v e = ap (λ (m : ℕ). elim (eqb m v) [ true ↦ noMate | false ↦ m ]) (sym e)
 
--- with the number of edges the bytes are those of t, where t differs in its owners alone
-pub edges-written : (s t : State) → t .n ≡ s .n → ((v : ℕ) → t .rank v ≡ s .rank v) → ((v : ℕ) → t .mate v ≡ s .mate v)
-    → setEdges (image (counted s t)) (edges t) ≡ write t
-unfolding counted withCounts turned ownersOf fieldsOf write withEdges
-edges-written s t e f g =
-    setEdges-image (counted s t) (edges t)
-    ∙ image-ext (withEdges (counted s t) (edges t)) (fieldsOf t) (record {
-      n = sym e;
-      edges = refl;
-      rank = λ v l. sym (f v);
-      mate = λ v l. entry-same s t v (g v);
-      phi = λ v x l k. both-held s t v x k;
-      owns = λ v w l k. refl;
-    })
+module _ (s t : State) (good : Good (s .kind .shape)) where
+  abbrev of : Shape
+  of = s .kind .shape
+
+  -- the owner's bit set, and both ends' bits cleared
+  module _ (o e : ℕ) (x : o < of .most) (y : e < of .most) where
+    pub own-turned : ((v w : ℕ) → (v ≡ o → w ≢ e) → t .owns v w ≡ s .owns v w) → t .owns o e ≡ true → own of (write s) o e ≡ image (turned s t)
+    unfolding write fieldsOf turned withOwns ownersOf
+    own-turned off on =
+        own-image (fieldsOf s) good o e x y
+        ∙ owners-ext s (withOwns (fieldsOf s) o e true) (t .owns) refl (λ v w. sym (entry-is (s .owns) o e true (t .owns) v w on (off v w)))
+
+    pub disown-turned : ((v w : ℕ) → (v ≡ o → w ≢ e) → (v ≡ e → w ≢ o) → t .owns v w ≡ s .owns v w) → t .owns o e ≡ false
+        → t .owns e o ≡ false → disown of (disown of (write s) o e) e o ≡ image (turned s t)
+    unfolding write fieldsOf turned withOwns ownersOf
+    disown-turned off on back =
+        let once : Fields = withOwns (fieldsOf s) o e false in
+        ap (λ (bs : List ℕ). disown of bs e o) (disown-image (fieldsOf s) good o e x y) ∙ disown-image once good e o y x
+        ∙ owners-ext s (withOwns once e o false) (t .owns) refl
+        (λ v w. sym (entry-is (once .owns) e o false (t .owns) v w back (λ d. entry-is (s .owns) o e false (t .owns) v w on (λ c. off v w c d))))
+
+  -- what the stages hold
+  pub turned-phi : (v x : ℕ) → v < of .most → x < of .levels → phiAt of (image (turned s t)) v x ≡ phi s v x
+  unfolding turned ownersOf
+  turned-phi v x l k = phi-image (turned s t) good v x l k
+
+  pub halfway-phi : (a v x : ℕ) → v < of .most → x < of .levels → phiAt of (image (halfway a s t)) v x ≡ half a s t v x
+  unfolding halfway withCounts turned ownersOf
+  halfway-phi a v x l k = phi-image (halfway a s t) good v x l k
+
+  pub counted-edges : s .n ≤ of .most → edgesAt of (image (counted s t)) ≡ edges s
+  unfolding counted withCounts turned ownersOf
+  counted-edges few = edges-image (counted s t) good (edges-fit s good few)
+
+  -- with the number of edges the bytes are those of t, where t differs in its owners alone
+  pub edges-written : t .kind ≡ s .kind → t .n ≡ s .n → ((v : ℕ) → t .rank v ≡ s .rank v) → ((v : ℕ) → t .mate v ≡ s .mate v)
+      → setEdges of (image (counted s t)) (edges t) ≡ write t
+  unfolding counted withCounts turned ownersOf fieldsOf write withEdges
+  edges-written k e f g =
+      setEdges-image (counted s t) good (edges t)
+      ∙ image-ext (withEdges (counted s t) (edges t)) (fieldsOf t) good (record {
+        kind = sym k;
+        n = sym e;
+        edges = refl;
+        rank = λ v l. sym (f v);
+        mate = λ v l. entry-same s t v (g v);
+        phi = λ v x l k. both-held s t v x k;
+        owns = λ v w l k. refl;
+      })

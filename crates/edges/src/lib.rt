@@ -3,6 +3,7 @@ ghost use mathlib.Core.Path.{_≡_};
 ghost use mathlib.Core.Bool.{true, false};
 ghost use mathlib.Core.Logic.{_≢_};
 ghost use Prim.Native.Nat.{suc, _<_, _≤_, ℕ};
+ghost use Rattle.model.specs.Shape.{low};
 ghost use Rattle.model.specs.State.{base, edge};
 ghost use Rattle.model.specs.Bytes.{read, write};
 ghost use Rattle.model.specs.Change.{addEdge as edgeAdded, reown, withoutEdge, riser as riserOf};
@@ -28,9 +29,9 @@ fn higher(x: u8, y: u8) -> usize
 
 // One edge more, or one less, that counts from level j on: for both its ends a and b, and in the number of edges.
 fn count_edge(rack: &mut [u8], a: usize, b: usize, j: usize, more: bool)
-    requires { ⌜ Sized (now rack) ⌝ }
-    requires { ⌜ Countable more (now rack) a b j ⌝ }
-    ensures { λ _. ⌜ now (rack .exit) ≡ edgeCounted more (now (rack .entry)) a b j ⌝ }
+    requires { ⌜ Sized low (now rack) ⌝ }
+    requires { ⌜ Countable low more (now rack) a b j ⌝ }
+    ensures { λ _. ⌜ now (rack .exit) ≡ edgeCounted low more (now (rack .entry)) a b j ⌝ }
 {
     let k = layout::top() + 1 - j;
     moves::step_counts(rack, a, j, k, more);
@@ -42,9 +43,9 @@ fn count_edge(rack: &mut [u8], a: usize, b: usize, j: usize, more: bool)
 
 // "Add: the owner is the end of higher level, on equal levels the lower number": a is the lower number.
 pub fn add_edge(rack: &mut [u8], a: usize, b: usize)
-    requires { ⌜ Held (now rack) ⌝ }
-    requires { ⌜ (a < read (now rack) .n) × (b < read (now rack) .n) × (a ≢ b) × (edge (read (now rack)) a b ≡ false) ⌝ }
-    ensures { λ _. ⌜ now (rack .exit) ≡ write (edgeAdded a b (read (now (rack .entry)))) ⌝ }
+    requires { ⌜ Held low (now rack) ⌝ }
+    requires { ⌜ (a < read low (now rack) .n) × (b < read low (now rack) .n) × (a ≢ b) × (edge (read low (now rack)) a b ≡ false) ⌝ }
+    ensures { λ _. ⌜ now (rack .exit) ≡ write (edgeAdded a b (read low (now (rack .entry)))) ⌝ }
 {
     let ra = layout::rank(rack, a);
     let rb = layout::rank(rack, b);
@@ -58,9 +59,9 @@ pub fn add_edge(rack: &mut [u8], a: usize, b: usize)
 
 // "Drop: remove the link.": whichever end owns it.
 pub fn drop_edge(rack: &mut [u8], a: usize, b: usize)
-    requires { ⌜ Held (now rack) ⌝ }
-    requires { ⌜ (a < read (now rack) .n) × (b < read (now rack) .n) × (a ≢ b) × (edge (read (now rack)) a b ≡ true) ⌝ }
-    ensures { λ _. ⌜ now (rack .exit) ≡ write (reown (read (now (rack .entry))) (withoutEdge (read (now (rack .entry)) .owns) a b)) ⌝ }
+    requires { ⌜ Held low (now rack) ⌝ }
+    requires { ⌜ (a < read low (now rack) .n) × (b < read low (now rack) .n) × (a ≢ b) × (edge (read low (now rack)) a b ≡ true) ⌝ }
+    ensures { λ _. ⌜ now (rack .exit) ≡ write (reown (read low (now (rack .entry))) (withoutEdge (read low (now (rack .entry)) .owns) a b)) ⌝ }
 {
     let j = higher(layout::rank(rack, a), layout::rank(rack, b));
     layout::disown(rack, a, b);
@@ -71,9 +72,9 @@ pub fn drop_edge(rack: &mut [u8], a: usize, b: usize)
 // "The search for a rise stops at the first level, from 3 downwards to one above both ends, that either end's count reaches. [..] If both
 // reach it, the lower number rises.": a is the lower number.
 pub fn riser(rack: &[u8], a: usize, b: usize) -> Reached
-    requires { ⌜ Held (now rack) ⌝ }
-    requires { ⌜ (a < read (now rack) .n) × (b < read (now rack) .n) ⌝ }
-    ensures { λ r. ⌜ reachedBy r ≡ riserOf base a b (suc (base .top)) (read (now (rack .entry))) ⌝ }
+    requires { ⌜ Held low (now rack) ⌝ }
+    requires { ⌜ (a < read low (now rack) .n) × (b < read low (now rack) .n) ⌝ }
+    ensures { λ r. ⌜ reachedBy r ≡ riserOf base a b (suc (base .top)) (read low (now (rack .entry))) ⌝ }
 {
     let low = higher(layout::rank(rack, a), layout::rank(rack, b));
     let mut j = layout::top() + 1;

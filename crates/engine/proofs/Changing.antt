@@ -2,8 +2,8 @@
 use mathlib.Core.Path.{_≡_, refl, sym, ap, _∙_, subst}
 use mathlib.Core.Logic.{_≢_}
 use mathlib.Core.List.{List}
-use Prim.Native.Nat.{ℕ}
-use native.Mathlib.Omega.{arith}
+use Prim.Native.Nat.{ℕ, _<_}
+use Rattle.model.specs.Shape.{Shape, Good}
 use Rattle.model.specs.State.{base}
 use Rattle.model.specs.Bytes.{read, write}
 use Rattle.model.specs.Valid.{IsBytes}
@@ -14,37 +14,38 @@ use Rattle.model.proofs.Bridge.{sound-valid}
 use Rattle.theory.proofs.OnBytes.{call-leaves}
 use Rattle.changes.specs.declared.Answer.{Answer}
 use Rattle.changes.specs.Sounded.{Sounded, Answers}
+use Rattle.changes.proofs.Answered.{sounded-rack}
 use Rattle.engine.specs.Answers.{ChangeIs}
 use Rattle.engine.proofs.Numbers.{rack-good, sized-length}
 
-module _ (bs : List ℕ) (c : Change) where
-  turned : rackNumber base bs ≢ 0 → changeBytes base bs c ≡ unchanged (rackNumber base bs) bs
+module _ (S : Shape) (bs : List ℕ) (c : Change) where
+  turned : rackNumber base S bs ≢ 0 → changeBytes base S bs c ≡ unchanged (rackNumber base S bs) bs
   unfolding changeBytes
-  turned d = rw (eqb-no (rackNumber base bs) 0 d, changeBytes) refl
+  turned d = rw (eqb-no (rackNumber base S bs) 0 d, changeBytes) refl
 
   -- 1 or 6
-  pub turned-is : (r : Answer) → r .number ≡ rackNumber base bs → r .number ≢ 0 → r .draws ≡ 0 → r .falls ≡ 0 → r .pairs ≡ 0 → ChangeIs bs c r bs
+  pub turned-is : (r : Answer) → r .number ≡ rackNumber base S bs → r .number ≢ 0 → r .draws ≡ 0 → r .falls ≡ 0 → r .pairs ≡ 0 → ChangeIs S bs c r bs
   unfolding unchanged refused
   turned-is r k d x y z =
-      let e : changeBytes base bs c ≡ unchanged (rackNumber base bs) bs = turned (λ p. d (k ∙ p)) in
+      let e : changeBytes base S bs c ≡ unchanged (rackNumber base S bs) bs = turned (λ p. d (k ∙ p)) in
       record {
         answers = subst (λ (u : ChangedBytes). Answers r (u .answer)) (sym e) (record { number = k; draws = x; falls = y; pairs = z });
         leaves = ap (λ (u : ChangedBytes). u .rack) (sym e);
       }
 
 -- bytes that neither 1 nor 6 fits
-pub sounded : (bs : List ℕ) → IsBytes bs → rackNumber base bs ≡ 0 → Sounded bs
-unfolding base
-sounded bs by e =
-    let g = rack-good bs e in
-    let v = sound-valid base (omega arith) bs by (sized-length bs (g .0)) (true-T (g .1)) in
-    record { written = v .0; valid = v .1 }
+pub sounded : {S : Shape} → Good S → base .top < S .levels → (bs : List ℕ) → IsBytes bs → rackNumber base S bs ≡ 0 → Sounded S bs
+sounded {S} good room bs by e =
+    let g = rack-good S bs e in
+    let v = sound-valid base S good room bs by (sized-length S bs (g .0)) (true-T (g .1)) in
+    record { good = good; room = room; written = v .0; valid = v .1 }
 
 -- a change of such bytes is that of the rack which they write
-pub ran-is : (bs : List ℕ) (c : Change) → Sounded bs → (r : Answer) (after : List ℕ)
-    → Answers r (change base (read bs) c .answer) → after ≡ write (change base (read bs) c .state) → ChangeIs bs c r after
-ran-is bs c g r after p q =
-    let e = ap (λ (x : List ℕ). changeBytes base x c) (g .written) ∙ call-leaves (read bs) (g .valid) c in
+pub ran-is : {S : Shape} (bs : List ℕ) (c : Change) → Sounded S bs → (r : Answer) (after : List ℕ)
+    → Answers r (change base (read S bs) c .answer) → after ≡ write (change base (read S bs) c .state) → ChangeIs S bs c r after
+unfolding read
+ran-is {S} bs c g r after p q =
+    let e = ap (λ (x : List ℕ). changeBytes base S x c) (g .written) ∙ call-leaves (read S bs) (sounded-rack g) c in
     record {
       answers = subst (λ (u : ChangedBytes). Answers r (u .answer)) (sym e) p;
       leaves = q ∙ ap (λ (u : ChangedBytes). u .rack) (sym e);

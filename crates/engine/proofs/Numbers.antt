@@ -7,8 +7,9 @@ use Prim.Native.Nat.{ℕ, suc, _≤_, _<_}
 use native.Mathlib.Omega.{arith}
 use lib.Dec.{eqb, eqb→eq}
 use lib.ListN.{length}
+use Rattle.model.specs.Shape.{Shape, rackLength}
 use Rattle.model.specs.State.{base, edge, empty}
-use Rattle.model.specs.Bytes.{rackLength, most, sizeAt, ownsAt, read, write}
+use Rattle.model.specs.Bytes.{sizeAt, ownsAt, read, write}
 use Rattle.model.specs.Sound.{sizeGood, sound}
 use Rattle.model.specs.Calls.{sized, rackNumber, makeNumber, made, oneNumber, twoNumber}
 use Rattle.model.proofs.Tests.{eq?, le?, true-T, eqb-yes, eqb-no, leb-yes, leb-no}
@@ -37,64 +38,64 @@ told {k} {m} e d = eqb-no m 0 (λ z. d (e ∙ z))
 pub none-told : {k m : ℕ} → k ≡ m → k ≡ 0 → eqb m 0 ≡ true
 none-told {k} {m} e z = eqb-yes m 0 (sym e ∙ z)
 
-pub sized-length : (bs : List ℕ) → sized bs ≡ true → length bs ≡ rackLength
+pub sized-length : (S : Shape) (bs : List ℕ) → sized S bs ≡ true → length bs ≡ rackLength S
 unfolding sized
-sized-length bs e = eqb→eq (length bs) rackLength (true-T e)
+sized-length S bs e = eqb→eq (length bs) (rackLength S) (true-T e)
 
-module _ (bs : List ℕ) where
-  pub rack-one : sized bs ≡ false → rackNumber base bs ≡ 1
+module _ (S : Shape) (bs : List ℕ) where
+  pub rack-one : sized S bs ≡ false → rackNumber base S bs ≡ 1
   unfolding rackNumber
   rack-one e = rw (e, rackNumber) refl
 
-  pub rack-six : sized bs ≡ true → sound base bs ≡ false → rackNumber base bs ≡ 6
+  pub rack-six : sized S bs ≡ true → sound base S bs ≡ false → rackNumber base S bs ≡ 6
   unfolding rackNumber
   rack-six e f = rw (e, f, rackNumber) refl
 
-  pub rack-zero : sized bs ≡ true → sound base bs ≡ true → rackNumber base bs ≡ 0
+  pub rack-zero : sized S bs ≡ true → sound base S bs ≡ true → rackNumber base S bs ≡ 0
   unfolding rackNumber
   rack-zero e f = rw (e, f, rackNumber) refl
 
   -- neither fits: the bytes are as many as a rack has, and sound
-  pub rack-good : rackNumber base bs ≡ 0 → (sized bs ≡ true) × (sound base bs ≡ true)
-  rack-good = go (sized bs) refl (sound base bs) refl
+  pub rack-good : rackNumber base S bs ≡ 0 → (sized S bs ≡ true) × (sound base S bs ≡ true)
+  rack-good = go (sized S bs) refl (sound base S bs) refl
     where
-      go : (x : Bool) → sized bs ≡ x → (y : Bool) → sound base bs ≡ y → rackNumber base bs ≡ 0 → (sized bs ≡ true) × (sound base bs ≡ true)
+      go : (x : Bool) → sized S bs ≡ x → (y : Bool) → sound base S bs ≡ y → rackNumber base S bs ≡ 0 → (sized S bs ≡ true) × (sound base S bs ≡ true)
       go true e true f z = (e, f)
       go true e false f z = absurd (omega (arith, rack-six e f))
       go false e y f z = absurd (omega (arith, rack-one e))
 
   -- n of a sound rack
-  pub good-size : sound base bs ≡ true → sizeAt bs ≤ most
-  good-size e = sound-says base bs .fact (true-T e) .size .1
+  pub good-size : sound base S bs ≡ true → sizeAt bs ≤ S .most
+  good-size e = sound-says base S bs .fact (true-T e) .size .1
 
   -- making: the number, and the bytes that are left
-  pub make-one : (n : ℕ) → sized bs ≡ false → (makeNumber bs n ≡ 1) × (made bs n ≡ bs)
+  pub make-one : (n : ℕ) → sized S bs ≡ false → (makeNumber S bs n ≡ 1) × (made (record { shape = S }) bs n ≡ bs)
   unfolding makeNumber made
   make-one n e = (rw (e, makeNumber) refl, rw (e, makeNumber, made) refl)
 
-  pub make-five : (n : ℕ) → sized bs ≡ true → sizeGood n ≡ false → (makeNumber bs n ≡ 5) × (made bs n ≡ bs)
+  pub make-five : (n : ℕ) → sized S bs ≡ true → sizeGood S n ≡ false → (makeNumber S bs n ≡ 5) × (made (record { shape = S }) bs n ≡ bs)
   unfolding makeNumber made
   make-five n e f = (rw (e, f, makeNumber) refl, rw (e, f, makeNumber, made) refl)
 
-  pub make-new : (n : ℕ) → sized bs ≡ true → sizeGood n ≡ true → (makeNumber bs n ≡ 0) × (made bs n ≡ write (empty n))
+  pub make-new : (n : ℕ) → sized S bs ≡ true → sizeGood S n ≡ true → (makeNumber S bs n ≡ 0) × (made (record { shape = S }) bs n ≡ write (empty (record { shape = S }) n))
   unfolding makeNumber made
   make-new n e f = (rw (e, f, makeNumber) refl, rw (e, f, makeNumber, made) refl)
 
   -- queries
-  pub one-back : (v : ℕ) → rackNumber base bs ≢ 0 → oneNumber base bs v ≡ rackNumber base bs
+  pub one-back : (v : ℕ) → rackNumber base S bs ≢ 0 → oneNumber base S bs v ≡ rackNumber base S bs
   unfolding oneNumber
-  one-back v d = rw (eqb-no (rackNumber base bs) 0 d, oneNumber) refl
+  one-back v d = rw (eqb-no (rackNumber base S bs) 0 d, oneNumber) refl
 
-  pub one-eight : (v : ℕ) → rackNumber base bs ≡ 0 → sizeAt bs ≤ v → oneNumber base bs v ≡ 8
+  pub one-eight : (v : ℕ) → rackNumber base S bs ≡ 0 → sizeAt bs ≤ v → oneNumber base S bs v ≡ 8
   unfolding oneNumber
-  one-eight v e l = rw (eqb-yes (rackNumber base bs) 0 e, leb-no (suc v) (sizeAt bs) (omega arith), oneNumber) refl
+  one-eight v e l = rw (eqb-yes (rackNumber base S bs) 0 e, leb-no (suc v) (sizeAt bs) (omega arith), oneNumber) refl
 
-  pub one-zero : (v : ℕ) → rackNumber base bs ≡ 0 → v < sizeAt bs → oneNumber base bs v ≡ 0
+  pub one-zero : (v : ℕ) → rackNumber base S bs ≡ 0 → v < sizeAt bs → oneNumber base S bs v ≡ 0
   unfolding oneNumber
-  one-zero v e l = rw (eqb-yes (rackNumber base bs) 0 e, leb-yes (suc v) (sizeAt bs) l, oneNumber) refl
+  one-zero v e l = rw (eqb-yes (rackNumber base S bs) 0 e, leb-yes (suc v) (sizeAt bs) l, oneNumber) refl
 
-  pub one-good : (v : ℕ) → oneNumber base bs v ≡ 0 → (rackNumber base bs ≡ 0) × (v < sizeAt bs)
-  one-good v z = elim (eq? (rackNumber base bs) 0) [
+  pub one-good : (v : ℕ) → oneNumber base S bs v ≡ 0 → (rackNumber base S bs ≡ 0) × (v < sizeAt bs)
+  one-good v z = elim (eq? (rackNumber base S bs) 0) [
     | inr d ↦ absurd (d (sym (one-back v d) ∙ z))
     | inl e ↦ elim (le? (sizeAt bs) v) [
       | inl l ↦ absurd (omega (arith, one-eight v e l))
@@ -102,24 +103,24 @@ module _ (bs : List ℕ) where
     ]
   ]
 
-  pub two-back : (v w : ℕ) → oneNumber base bs v ≢ 0 → twoNumber base bs v w ≡ oneNumber base bs v
+  pub two-back : (v w : ℕ) → oneNumber base S bs v ≢ 0 → twoNumber base S bs v w ≡ oneNumber base S bs v
   unfolding twoNumber
-  two-back v w d = rw (eqb-no (oneNumber base bs v) 0 d, twoNumber) refl
+  two-back v w d = rw (eqb-no (oneNumber base S bs v) 0 d, twoNumber) refl
 
-  pub two-eight : (v w : ℕ) → oneNumber base bs v ≡ 0 → sizeAt bs ≤ w → twoNumber base bs v w ≡ 8
+  pub two-eight : (v w : ℕ) → oneNumber base S bs v ≡ 0 → sizeAt bs ≤ w → twoNumber base S bs v w ≡ 8
   unfolding twoNumber
-  two-eight v w e l = rw (eqb-yes (oneNumber base bs v) 0 e, leb-no (suc w) (sizeAt bs) (omega arith), twoNumber) refl
+  two-eight v w e l = rw (eqb-yes (oneNumber base S bs v) 0 e, leb-no (suc w) (sizeAt bs) (omega arith), twoNumber) refl
 
-  pub two-nine : (v w : ℕ) → oneNumber base bs v ≡ 0 → w < sizeAt bs → v ≡ w → twoNumber base bs v w ≡ 9
+  pub two-nine : (v w : ℕ) → oneNumber base S bs v ≡ 0 → w < sizeAt bs → v ≡ w → twoNumber base S bs v w ≡ 9
   unfolding twoNumber
-  two-nine v w e l f = rw (eqb-yes (oneNumber base bs v) 0 e, leb-yes (suc w) (sizeAt bs) l, eqb-yes v w f, twoNumber) refl
+  two-nine v w e l f = rw (eqb-yes (oneNumber base S bs v) 0 e, leb-yes (suc w) (sizeAt bs) l, eqb-yes v w f, twoNumber) refl
 
-  pub two-zero : (v w : ℕ) → oneNumber base bs v ≡ 0 → w < sizeAt bs → v ≢ w → twoNumber base bs v w ≡ 0
+  pub two-zero : (v w : ℕ) → oneNumber base S bs v ≡ 0 → w < sizeAt bs → v ≢ w → twoNumber base S bs v w ≡ 0
   unfolding twoNumber
-  two-zero v w e l f = rw (eqb-yes (oneNumber base bs v) 0 e, leb-yes (suc w) (sizeAt bs) l, eqb-no v w f, twoNumber) refl
+  two-zero v w e l f = rw (eqb-yes (oneNumber base S bs v) 0 e, leb-yes (suc w) (sizeAt bs) l, eqb-no v w f, twoNumber) refl
 
-  pub two-good : (v w : ℕ) → twoNumber base bs v w ≡ 0 → (oneNumber base bs v ≡ 0) × (w < sizeAt bs)
-  two-good v w z = elim (eq? (oneNumber base bs v) 0) [
+  pub two-good : (v w : ℕ) → twoNumber base S bs v w ≡ 0 → (oneNumber base S bs v ≡ 0) × (w < sizeAt bs)
+  two-good v w z = elim (eq? (oneNumber base S bs v) 0) [
     | inr d ↦ absurd (d (sym (two-back v w d) ∙ z))
     | inl e ↦ elim (le? (sizeAt bs) w) [
       | inl l ↦ absurd (omega (arith, two-eight v w e l))
@@ -128,35 +129,35 @@ module _ (bs : List ℕ) where
   ]
 
   -- two vertices below n are linked if one of their rows names the other
-  pub edge-owns : (v w : ℕ) → v < sizeAt bs → w < sizeAt bs → edge (read bs) v w ≡ ownsAt bs v w || ownsAt bs w v
+  pub edge-owns : (v w : ℕ) → v < sizeAt bs → w < sizeAt bs → edge (read S bs) v w ≡ ownsAt S bs v w || ownsAt S bs w v
   unfolding edge
-  edge-owns v w l k = rw (read-owns bs v w l k, read-owns bs w v k l) refl
+  edge-owns v w l k = rw (read-owns S bs v w l k, read-owns S bs w v k l) refl
 
   -- what a query may read once no number fits
-  pub asked : (v : ℕ) → oneNumber base bs v ≡ 0 → (length bs ≡ rackLength) × (v < most)
+  pub asked : (v : ℕ) → oneNumber base S bs v ≡ 0 → (length bs ≡ rackLength S) × (v < S .most)
   asked v z =
       let o = one-good v z in
       let g = rack-good (o .0) in
-      (sized-length bs (g .0), omega (arith, o .1, good-size (g .1)))
+      (sized-length S bs (g .0), omega (arith, o .1, good-size (g .1)))
 
-  pub asked-two : (v w : ℕ) → twoNumber base bs v w ≡ 0 → (length bs ≡ rackLength) × ((v < most) × (w < most))
+  pub asked-two : (v w : ℕ) → twoNumber base S bs v w ≡ 0 → (length bs ≡ rackLength S) × ((v < S .most) × (w < S .most))
   asked-two v w z =
       let t = two-good v w z in
       let o = asked v (t .0) in
       (o .0, (o .1, omega (arith, t .1, good-size (rack-good (one-good v (t .0) .0) .1))))
 
-  pub linked-edge : (v w : ℕ) → twoNumber base bs v w ≡ 0 → ownsAt bs v w || ownsAt bs w v ≡ edge (read bs) v w
+  pub linked-edge : (v w : ℕ) → twoNumber base S bs v w ≡ 0 → ownsAt S bs v w || ownsAt S bs w v ≡ edge (read S bs) v w
   linked-edge v w z = let t = two-good v w z in sym (edge-owns v w (one-good v (t .0) .1) (t .1))
 
--- a number of boards outside 1 to 256, and inside
-pub few-bad : (n : ℕ) → n ≡ 0 → sizeGood n ≡ false
+-- a number of boards that a rack has not room for, and one that it has
+pub few-bad : (S : Shape) (n : ℕ) → n ≡ 0 → sizeGood S n ≡ false
 unfolding sizeGood
-few-bad n e = rw (e, sizeGood) refl
+few-bad S n e = rw (e, sizeGood) refl
 
-pub many-bad : (n : ℕ) → most < n → sizeGood n ≡ false
+pub many-bad : (S : Shape) (n : ℕ) → S .most < n → sizeGood S n ≡ false
 unfolding sizeGood
-many-bad n l = rw (leb-yes 1 n (omega arith), leb-no n most l, sizeGood) refl
+many-bad S n l = rw (leb-yes 1 n (omega arith), leb-no n (S .most) l, sizeGood) refl
 
-pub few-good : (n : ℕ) → n ≢ 0 → n ≤ most → sizeGood n ≡ true
+pub few-good : (S : Shape) (n : ℕ) → n ≢ 0 → n ≤ S .most → sizeGood S n ≡ true
 unfolding sizeGood
-few-good n d l = rw (leb-yes 1 n (omega arith), leb-yes n most l, sizeGood) refl
+few-good S n d l = rw (leb-yes 1 n (omega arith), leb-yes n (S .most) l, sizeGood) refl

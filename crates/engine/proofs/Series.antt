@@ -2,22 +2,24 @@
 -- call meets the contract. Assumes nothing.
 use mathlib.Core.Path.{_≡_, sym, subst}
 use mathlib.Core.List.{List, [], _∷_}
-use Prim.Native.Nat.{ℕ}
+use Prim.Native.Nat.{ℕ, _<_}
 use lib.Dec.{T}
+use Rattle.model.specs.Shape.{Shape, Good, low}
 use Rattle.model.specs.State.{base}
 use Rattle.model.specs.Sound.{sound}
 use Rattle.model.specs.Valid.{IsBytes}
 use Rattle.model.specs.Calls.{sized, changeBytes}
 use Rattle.model.specs.Ledger.{Ledger, ledgerOf, entered, enteredAll}
 use Rattle.theory.specs.Demand.{lastRack, Call, Calls, Demand}
+use Rattle.model.proofs.Shapes.{low-good, low-room}
 use Rattle.theory.proofs.ListTheorem.{demand-three}
 use Rattle.engine.specs.Answers.{ChangeIs}
 use Rattle.engine.specs.Series.{CallMade, Series, asked, left, gave, Right, SeriesDemand}
 
 -- a call that meets the contract gave what the definition gives
-gave-is : (bs : List ℕ) (d : CallMade) → ChangeIs bs (d .change) (d .answer) (d .after) → changeBytes base bs (d .change) ≡ gave bs d
+gave-is : (S : Shape) (bs : List ℕ) (d : CallMade) → ChangeIs S bs (d .change) (d .answer) (d .after) → changeBytes base S bs (d .change) ≡ gave S bs d
 unfolding gave
-gave-is bs d h = λ i. record {
+gave-is S bs d h = λ i. record {
   answer = record {
     number = sym (h .answers .number) i;
     draws = sym (h .answers .draws) i;
@@ -25,24 +27,29 @@ gave-is bs d h = λ i. record {
     pairs = sym (h .answers .pairs) i;
   };
   rack = sym (h .leaves) i;
-  news = changeBytes base bs (d .change) .news;
+  news = changeBytes base S bs (d .change) .news;
 }
 
 -- a series that meets the contract call by call is one of the definition's
-kept : (l : Ledger) (bs : List ℕ) (ds : List CallMade) → Series bs ds → Demand l bs (asked ds) → SeriesDemand l bs ds
+kept : (S : Shape) (l : Ledger) (bs : List ℕ) (ds : List CallMade) → Series S bs ds → Demand S l bs (asked ds) → SeriesDemand S l bs ds
 unfolding Series asked left Right Calls lastRack enteredAll
-kept l bs [] h p = record { calls = tt; last = p .last }
-kept l bs (d ∷ ds) h p =
-    let e : changeBytes base bs (d .change) .rack ≡ d .after = sym (h .0 .leaves) in
-    let next : Demand (entered l (d .change)) (d .after) (asked ds) = subst (λ (x : List ℕ). Demand (entered l (d .change)) x (asked ds)) e
+kept S l bs [] h p = record { calls = tt; last = p .last }
+kept S l bs (d ∷ ds) h p =
+    let e : changeBytes base S bs (d .change) .rack ≡ d .after = sym (h .0 .leaves) in
+    let next : Demand S (entered l (d .change)) (d .after) (asked ds) = subst (λ (x : List ℕ). Demand S (entered l (d .change)) x (asked ds)) e
     (record { calls = p .calls .1; last = p .last }) in
-    let rest : SeriesDemand (entered l (d .change)) (d .after) ds = kept (entered l (d .change)) (d .after) ds (h .1) next in
+    let rest : SeriesDemand S (entered l (d .change)) (d .after) ds = kept S (entered l (d .change)) (d .after) ds (h .1) next in
     record {
-      calls = (subst (Call l bs (d .change)) (gave-is bs d (h .0)) (p .calls .0), rest .calls);
+      calls = (subst (Call S l bs (d .change)) (gave-is S bs d (h .0)) (p .calls .0), rest .calls);
       last = rest .last;
     }
 
--- From any sound rack, whatever the codes, the vertices and the words of the calls.
-pub demand-three-of-change : (bs : List ℕ) → IsBytes bs → T (sized bs) → T (sound base bs)
-    → (ds : List CallMade) → Series bs ds → SeriesDemand (ledgerOf bs) bs ds
-demand-three-of-change bs by sz so ds h = kept (ledgerOf bs) bs ds h (demand-three bs by sz so (asked ds))
+-- From any sound rack of any good shape, whatever the codes, the vertices and the words of the calls.
+pub demand-three-of-series : (S : Shape) → Good S → base .top < S .levels → (bs : List ℕ) → IsBytes bs → T (sized S bs) → T (sound base S bs)
+    → (ds : List CallMade) → Series S bs ds → SeriesDemand S (ledgerOf S bs) bs ds
+demand-three-of-series S good room bs by sz so ds h = kept S (ledgerOf S bs) bs ds h (demand-three S good room bs by sz so (asked ds))
+
+-- Of the calls of `engine::change`, whose contract is that of document 01's rack.
+pub demand-three-of-change : (bs : List ℕ) → IsBytes bs → T (sized low bs) → T (sound base low bs)
+    → (ds : List CallMade) → Series low bs ds → SeriesDemand low (ledgerOf low bs) bs ds
+demand-three-of-change = demand-three-of-series low low-good low-room

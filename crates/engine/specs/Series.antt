@@ -2,6 +2,7 @@
 -- calls gave, by the contract of `engine::change` alone. Assumes nothing.
 use mathlib.Core.List.{List, [], _∷_}
 use Prim.Native.Nat.{ℕ}
+use Rattle.model.specs.Shape.{Shape}
 use Rattle.model.specs.State.{base}
 use Rattle.model.specs.Change.{Change}
 use Rattle.model.specs.Calls.{ChangedBytes, changeBytes}
@@ -17,9 +18,9 @@ pub record CallMade : Type 0 where
   pub after : List ℕ
 
 -- each call meets the contract of `engine::change`
-unfoldable pub Series : List ℕ → List CallMade → Type 0
-Series bs [] = Unit
-Series bs (d ∷ ds) = ChangeIs bs (d .change) (d .answer) (d .after) × Series (d .after) ds
+unfoldable pub Series : Shape → List ℕ → List CallMade → Type 0
+Series S bs [] = Unit
+Series S bs (d ∷ ds) = ChangeIs S bs (d .change) (d .answer) (d .after) × Series S (d .after) ds
 
 -- the changes that were asked for, and the bytes after the last call
 unfoldable pub asked : List CallMade → List Change
@@ -31,19 +32,19 @@ left bs [] = bs
 left bs (d ∷ ds) = left (d .after) ds
 
 -- what a call gave; its new pairs are the definition's
-unfoldable pub gave : List ℕ → CallMade → ChangedBytes
-gave bs d = record {
+unfoldable pub gave : Shape → List ℕ → CallMade → ChangedBytes
+gave S bs d = record {
   answer = record { number = d .answer .number; draws = d .answer .draws; falls = d .answer .falls; pairs = d .answer .pairs };
   rack = d .after;
-  news = changeBytes base bs (d .change) .news;
+  news = changeBytes base S bs (d .change) .news;
 }
 
 -- each call gave what demand 3 says of a call, by the ledger as it then stands
-unfoldable pub Right : Ledger → List ℕ → List CallMade → Type 0
-Right l bs [] = Unit
-Right l bs (d ∷ ds) = Call l bs (d .change) (gave bs d) × Right (entered l (d .change)) (d .after) ds
+unfoldable pub Right : Shape → Ledger → List ℕ → List CallMade → Type 0
+Right S l bs [] = Unit
+Right S l bs (d ∷ ds) = Call S l bs (d .change) (gave S bs d) × Right S (entered l (d .change)) (d .after) ds
 
 -- demand 3 of the calls made
-pub record SeriesDemand (l : Ledger) (bs : List ℕ) (ds : List CallMade) : Type 0 where
-  pub calls : Right l bs ds
-  pub last : Facts (enteredAll l (asked ds)) (left bs ds)
+pub record SeriesDemand (S : Shape) (l : Ledger) (bs : List ℕ) (ds : List CallMade) : Type 0 where
+  pub calls : Right S l bs ds
+  pub last : Facts S (enteredAll l (asked ds)) (left bs ds)

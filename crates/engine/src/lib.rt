@@ -2,7 +2,8 @@
 // with the first number that fits, and then every byte stays. Each contract names the definition that leaves one outcome.
 ghost use mathlib.Core.Path.{_≡_};
 ghost use lib.IntN.{pos, predℤ};
-ghost use Rattle.model.specs.State.{base};
+ghost use Rattle.model.specs.Shape.{low};
+ghost use Rattle.model.specs.State.{base, lowKind};
 ghost use Rattle.model.specs.Calls.{rackNumber, makeNumber, made, audit as auditOf, oneNumber, twoNumber, levelQuery, mateQuery, linkedQuery};
 ghost use Rattle.changes.specs.Sounded.{brought};
 ghost use Rattle.engine.specs.Answers.{ChangeIs, AuditIs, LevelIs, QueryIs};
@@ -28,7 +29,7 @@ pub struct QueryAnswer {
 
 // 1 or 6, or 0 if neither fits.
 fn rack_number(rack: &[u8]) -> u32
-    ensures { λ r. ⌜ r ≡ rackNumber base (now (rack .entry)) ⌝ }
+    ensures { λ r. ⌜ r ≡ rackNumber base low (now (rack .entry)) ⌝ }
 {
     if !layout::sized(rack) {
         return 1;
@@ -41,8 +42,8 @@ fn rack_number(rack: &[u8]) -> u32
 
 // Making: the rack of n boards with no link.
 pub fn make(rack: &mut [u8], n: u32) -> u32
-    ensures number { λ r. ⌜ r ≡ makeNumber (now (rack .entry)) n ⌝ }
-    ensures leaves { λ _. ⌜ now (rack .exit) ≡ made (now (rack .entry)) n ⌝ }
+    ensures number { λ r. ⌜ r ≡ makeNumber low (now (rack .entry)) n ⌝ }
+    ensures leaves { λ _. ⌜ now (rack .exit) ≡ made lowKind (now (rack .entry)) n ⌝ }
 {
     if !layout::sized(rack) {
         return 1;
@@ -50,7 +51,7 @@ pub fn make(rack: &mut [u8], n: u32) -> u32
     if n == 0 {
         return 5;
     }
-    if layout::MOST < n as usize {
+    if layout::shape::MOST < n as usize {
         return 5;
     }
     layout::clear(rack, n as u16);
@@ -59,7 +60,7 @@ pub fn make(rack: &mut [u8], n: u32) -> u32
 
 // A change: add (code 1) or drop (code 2) the link a-b, with words lent for its draws.
 pub fn change(rack: &mut [u8], code: u32, a: u32, b: u32, words: &[u32]) -> Answer
-    ensures { λ r. ⌜ ChangeIs (now (rack .entry)) (brought code a b (now (words .entry))) r (now (rack .exit)) ⌝ }
+    ensures { λ r. ⌜ ChangeIs low (now (rack .entry)) (brought code a b (now (words .entry))) r (now (rack .exit)) ⌝ }
 {
     let k = rack_number(rack);
     if k != 0 {
@@ -75,7 +76,7 @@ pub fn change(rack: &mut [u8], code: u32, a: u32, b: u32, words: &[u32]) -> Answ
 
 // The audit.
 pub fn audit(rack: &[u8]) -> AuditAnswer
-    ensures { λ r. ⌜ AuditIs r (auditOf base (now (rack .entry))) ⌝ }
+    ensures { λ r. ⌜ AuditIs r (auditOf base low (now (rack .entry))) ⌝ }
 {
     if !layout::sized(rack) {
         return AuditAnswer {
@@ -91,7 +92,7 @@ pub fn audit(rack: &[u8]) -> AuditAnswer
 
 // 1, 6 or 8 for a query that names one board.
 fn one_number(rack: &[u8], v: u32) -> u32
-    ensures { λ r. ⌜ r ≡ oneNumber base (now (rack .entry)) v ⌝ }
+    ensures { λ r. ⌜ r ≡ oneNumber base low (now (rack .entry)) v ⌝ }
 {
     let k = rack_number(rack);
     if k != 0 {
@@ -105,7 +106,7 @@ fn one_number(rack: &[u8], v: u32) -> u32
 
 // 1, 6, 8 or 9 for a query that names two boards.
 fn two_number(rack: &[u8], v: u32, w: u32) -> u32
-    ensures { λ r. ⌜ r ≡ twoNumber base (now (rack .entry)) v w ⌝ }
+    ensures { λ r. ⌜ r ≡ twoNumber base low (now (rack .entry)) v w ⌝ }
 {
     let k = one_number(rack, v);
     if k != 0 {
@@ -132,7 +133,7 @@ fn level_of(rank: u8) -> i32
 
 // The level of a board.
 pub fn level(rack: &[u8], v: u32) -> LevelAnswer
-    ensures { λ r. ⌜ LevelIs r (levelQuery base (now (rack .entry)) v) ⌝ }
+    ensures { λ r. ⌜ LevelIs r (levelQuery base low (now (rack .entry)) v) ⌝ }
 {
     let k = one_number(rack, v);
     if k != 0 {
@@ -147,7 +148,7 @@ pub fn level(rack: &[u8], v: u32) -> LevelAnswer
 
 // The mate of a board, 65,535 if it is idle.
 pub fn mate(rack: &[u8], v: u32) -> QueryAnswer
-    ensures { λ r. ⌜ QueryIs r (mateQuery base (now (rack .entry)) v) ⌝ }
+    ensures { λ r. ⌜ QueryIs r (mateQuery base low (now (rack .entry)) v) ⌝ }
 {
     let k = one_number(rack, v);
     if k != 0 {
@@ -164,7 +165,7 @@ pub fn mate(rack: &[u8], v: u32) -> QueryAnswer
 
 // Whether two boards are linked: 1 or 0.
 pub fn linked(rack: &[u8], v: u32, w: u32) -> QueryAnswer
-    ensures { λ r. ⌜ QueryIs r (linkedQuery base (now (rack .entry)) v w) ⌝ }
+    ensures { λ r. ⌜ QueryIs r (linkedQuery base low (now (rack .entry)) v w) ⌝ }
 {
     let k = two_number(rack, v, w);
     if k != 0 {

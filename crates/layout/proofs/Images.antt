@@ -3,203 +3,99 @@
 use mathlib.Core.Path.{_≡_, refl, sym, ap, ap₂, _∙_}
 use mathlib.Core.Logic.{_≢_, inl, inr}
 use mathlib.Core.Bool.{Bool, true, false, _&&_}
-use mathlib.Core.List.{List, [], _∷_, _++_}
+use mathlib.Core.List.{List}
 use Prim.Native.Nat.{ℕ, zero, suc, _+_, _-_, _*_, _/_, _%_, _^_, _≤_, _<_}
 use native.Mathlib.Omega.{arith}
 use lib.Dec.{T, leb, ltb, leb→le, le→leb, ltb→lt, lt→ltb}
-use lib.ListN.{length, getD, set, replicate, length-set}
-use lib.Seq.{set-append-left, ext-getD}
+use lib.ListN.{getD, set}
 use lib.Bits.{bitAnd, bitOr}
-use Rattle.model.specs.Counting.{each, upd}
-use Rattle.model.specs.Bytes.{Fields, bitOf, two, rowByte, image}
+use Rattle.model.specs.Counting.{upd}
+use Rattle.model.specs.Shape.{Shape, Good, ranksFrom, matesFrom, phisFrom, rowsFrom}
+use Rattle.model.specs.State.{Kind}
+use Rattle.model.specs.Parts.{bitOf, rowByte, byRows, bytesOf}
+use Rattle.model.specs.Bytes.{half, Fields, parts, image}
 use Rattle.model.proofs.Tests.{eq?, T-true, T-false, and-intro, and-left, and-right}
 use Rattle.model.proofs.Lists.{upd-same, upd-other}
-use Rattle.model.proofs.Chunks.{each-at, each-one-length, each-one-at, rowByte-of}
-use Rattle.model.proofs.Fields.{heads, ranks, mates, phis, rows, parts, heads-length, ranks-length, mates-length, phis-length, rows-length, row-byte}
+use Rattle.model.proofs.Chunks.{rowByte-of}
+use Rattle.model.proofs.Parts.{rows-at, rows-inside, rows-ext, Same, bytes-ext}
+use Rattle.model.proofs.Fields.{row-byte}
 use Rattle.bitset.specs.Row.{inserted, removed}
 use Rattle.bitset.specs.Words.{storedBytes, stored}
-use Rattle.bitset.proofs.Stored.{length-stored, stored-in, stored-out, bit-byte}
-use Rattle.layout.specs.Setters.{setTwo, setEdges, setRank, setMate, setPhi, own, disown, setWord}
-use Rattle.layout.proofs.Pieces.{set-behind, each-ext, set-each, each-one-ext, set-each-one, rowByte-ext, rowByte-other, rowByte-or, rowByte-and}
-
--- ---- what is set in a part of an image
-
-module _ (f : Fields) where
-  -- what is set behind some parts leaves those parts as they are
-  past-heads : (t : List ℕ) (i x : ℕ) → set (heads f ++ t) (8 + i) x ≡ heads f ++ set t i x
-  past-heads t i x = set-behind (heads f) t 8 i x (heads-length f)
-
-  past-ranks : (t : List ℕ) (i x : ℕ) → set (heads f ++ (ranks f ++ t)) (264 + i) x ≡ heads f ++ (ranks f ++ set t i x)
-  past-ranks t i x =
-      let e : 264 + i ≡ 8 + (256 + i) = omega arith in
-      ap (λ (k : ℕ). set (heads f ++ (ranks f ++ t)) k x) e ∙ past-heads (ranks f ++ t) (256 + i) x
-      ∙ ap (λ (s : List ℕ). heads f ++ s) (set-behind (ranks f) t 256 i x (ranks-length f))
-
-  past-mates : (t : List ℕ) (i x : ℕ) → set (heads f ++ (ranks f ++ (mates f ++ t))) (776 + i) x ≡ heads f ++ (ranks f ++ (mates f ++ set t i x))
-  past-mates t i x =
-      let e : 776 + i ≡ 264 + (512 + i) = omega arith in
-      ap (λ (k : ℕ). set (heads f ++ (ranks f ++ (mates f ++ t))) k x) e ∙ past-ranks (mates f ++ t) (512 + i) x
-      ∙ ap (λ (s : List ℕ). heads f ++ (ranks f ++ s)) (set-behind (mates f) t 512 i x (mates-length f))
-
-  past-phis : (t : List ℕ) (i x : ℕ)
-      → set (heads f ++ (ranks f ++ (mates f ++ (phis f ++ t)))) (1800 + i) x ≡ heads f ++ (ranks f ++ (mates f ++ (phis f ++ set t i x)))
-  past-phis t i x =
-      let e : 1800 + i ≡ 776 + (1024 + i) = omega arith in
-      ap (λ (k : ℕ). set (heads f ++ (ranks f ++ (mates f ++ (phis f ++ t)))) k x) e ∙ past-mates (phis f ++ t) (1024 + i) x
-      ∙ ap (λ (s : List ℕ). heads f ++ (ranks f ++ (mates f ++ s))) (set-behind (phis f) t 1024 i x (phis-length f))
+use Rattle.bitset.proofs.Words.{bit-byte}
+use Rattle.layout.specs.Setters.{setNum, setEdges, setRank, setMate, setPhi, rowPlace, own, disown, setWord}
+use Rattle.layout.proofs.Pieces.{put, put-ext, set-part, rowByte-ext, rowByte-or, rowByte-and}
+use Rattle.layout.proofs.Tables.{entered, entry-same, entry-other}
 
 -- ---- images by their fields
 
 -- fields that are the same wherever an image shows them
 pub record SameFields (f g : Fields) : Type 0 where
+  pub kind : f .kind ≡ g .kind
   pub n : f .n ≡ g .n
   pub edges : f .edges ≡ g .edges
-  pub rank : (v : ℕ) → v < 256 → f .rank v ≡ g .rank v
-  pub mate : (v : ℕ) → v < 256 → f .mate v ≡ g .mate v
-  pub phi : (v j : ℕ) → v < 256 → j < 4 → f .phi v j ≡ g .phi v j
-  pub owns : (v w : ℕ) → v < 256 → w < 256 → f .owns v w ≡ g .owns v w
+  pub rank : (v : ℕ) → v < f .kind .shape .most → f .rank v ≡ g .rank v
+  pub mate : (v : ℕ) → v < f .kind .shape .most → f .mate v ≡ g .mate v
+  pub phi : (v j : ℕ) → v < f .kind .shape .most → j < f .kind .shape .levels → f .phi v j ≡ g .phi v j
+  pub owns : (v w : ℕ) → v < f .kind .shape .most → w < f .kind .shape .most → f .owns v w ≡ g .owns v w
 
-pub image-ext : (f g : Fields) → SameFields f g → image f ≡ image g
-image-ext f g a =
-    let h : heads f ≡ heads g = ap₂ (λ (n e : ℕ). two n ++ (two e ++ replicate 4 0)) (a .n) (a .edges) in
-    let r : ranks f ≡ ranks g = each-one-ext (f .rank) (g .rank) 256 (a .rank) in
-    let m : mates f ≡ mates g = each-ext _ _ 256 (λ v l. ap two (a .mate v l)) in
-    let p : phis f ≡ phis g = each-ext _ _ 256 (λ v l. each-one-ext (f .phi v) (g .phi v) 4 (λ j k. a .phi v j l k)) in
-    let o : rows f ≡ rows g =
-    each-ext _ _ 256
-    (λ v l. each-one-ext (rowByte (f .owns v)) (rowByte (g .owns v)) 32
-    (λ k c. rowByte-ext (f .owns v) (g .owns v) k (λ b d. a .owns v (8 * k + b) l (omega arith)))) in
-    parts f ∙ rw (h, r, m, p, o) (sym (parts g))
+-- one part more that is the same (`Same`)
+same-next : {m w : ℕ} {f g : ℕ → ℕ} {Rest : Type 0} → ((i : ℕ) → i < m → f i ≡ g i) → Rest
+    → (m ≡ m) × (w ≡ w) × ((i : ℕ) → i < m → f i ≡ g i) × Rest
+same-next h rest = (refl, refl, h, rest)
+
+pub image-ext : (f g : Fields) → Good (f .kind .shape) → SameFields f g → image f ≡ image g
+unfolding image Same
+image-ext f g good a =
+    let S : Shape = f .kind .shape in
+    let of : Kind → Fields = λ K. record { kind = K; n = g .n; edges = g .edges; rank = g .rank; mate = g .mate; phi = g .phi; owns = g .owns } in
+    bytes-ext (parts f) (parts (of (f .kind)))
+    (same-next (λ i l. a .n)
+    (same-next (λ i l. ap (λ (x : ℕ). x % half) (a .edges))
+    (same-next (λ i l. refl)
+    (same-next (λ i l. ap (λ (x : ℕ). x / half) (a .edges))
+    (same-next (a .rank)
+    (same-next (a .mate)
+    (same-next (λ i l. rows-ext (f .phi) (g .phi) (S .most) (S .levels) i l (λ v j b c e. a .phi v j b c))
+    (same-next (λ i l. rows-ext _ _ (S .most) (S .row) i l (λ v k b c e.
+    rowByte-ext (f .owns v) (g .owns v) k (λ j d. a .owns v (8 * k + j) b (omega (arith, good .rows)))))
+    tt))))))))
+    ∙ ap (λ (K : Kind). image (of K)) (a .kind)
 
 -- ---- fields with one value changed
 
 unfoldable pub withEdges : Fields → ℕ → Fields
-withEdges f x = record { n = f .n; edges = x; rank = f .rank; mate = f .mate; phi = f .phi; owns = f .owns }
+withEdges f x = record { kind = f .kind; n = f .n; edges = x; rank = f .rank; mate = f .mate; phi = f .phi; owns = f .owns }
 
 unfoldable pub withRank : Fields → ℕ → ℕ → Fields
-withRank f v x = record { n = f .n; edges = f .edges; rank = upd (f .rank) v x; mate = f .mate; phi = f .phi; owns = f .owns }
+withRank f v x =
+    record { kind = f .kind; n = f .n; edges = f .edges; rank = upd (f .rank) v x; mate = f .mate; phi = f .phi; owns = f .owns }
 
 unfoldable pub withMate : Fields → ℕ → ℕ → Fields
-withMate f v x = record { n = f .n; edges = f .edges; rank = f .rank; mate = upd (f .mate) v x; phi = f .phi; owns = f .owns }
+withMate f v x =
+    record { kind = f .kind; n = f .n; edges = f .edges; rank = f .rank; mate = upd (f .mate) v x; phi = f .phi; owns = f .owns }
 
 unfoldable pub withPhi : Fields → ℕ → ℕ → ℕ → Fields
 withPhi f v j x =
-    record { n = f .n; edges = f .edges; rank = f .rank; mate = f .mate; phi = upd (f .phi) v (upd (f .phi v) j x); owns = f .owns }
+    record { kind = f .kind; n = f .n; edges = f .edges; rank = f .rank; mate = f .mate; phi = entered (f .phi) v j x; owns = f .owns }
 
 unfoldable pub withOwns : Fields → ℕ → ℕ → Bool → Fields
 withOwns f v w b =
-    record { n = f .n; edges = f .edges; rank = f .rank; mate = f .mate; phi = f .phi; owns = upd (f .owns) v (upd (f .owns v) w b) }
+    record { kind = f .kind; n = f .n; edges = f .edges; rank = f .rank; mate = f .mate; phi = f .phi; owns = entered (f .owns) v w b }
 
 -- the places 64 k to 64 k + 63 of row v those that pass p
 unfoldable pub worded : (ℕ → Bool) → ℕ → (ℕ → Bool) → ℕ → Bool
 worded row k p w = elim (leb (64 * k) w && ltb w (64 * k + 64)) [ true ↦ p w | false ↦ row w ]
 
 unfoldable pub withWord : Fields → ℕ → ℕ → (ℕ → Bool) → Fields
-withWord f v k p =
-    record { n = f .n; edges = f .edges; rank = f .rank; mate = f .mate; phi = f .phi; owns = upd (f .owns) v (worded (f .owns v) k p) }
-
--- ---- each setter on an image
-
-pub setEdges-image : (f : Fields) (x : ℕ) → setEdges (image f) x ≡ image (withEdges f x)
-unfolding setEdges image two withEdges
-setEdges-image f x = refl
-
-pub setRank-image : (f : Fields) (v x : ℕ) → v < 256 → setRank (image f) v x ≡ image (withRank f v x)
-unfolding setRank withRank
-setRank-image f v x l =
-    let new : set (ranks f) v x ≡ ranks (withRank f v x) =
-    set-each-one (f .rank) (upd (f .rank) v x) 256 v x l (sym (upd-same (f .rank) v x v refl)) (λ u c d. sym (upd-other (f .rank) v x u d)) in
-    ap (λ (s : List ℕ). set s (8 + v) x) (parts f) ∙ past-heads f _ v x
-    ∙ ap (λ (s : List ℕ). heads f ++ s)
-    (set-append-left (ranks f) _ v x (omega (arith, ranks-length f)) ∙ ap (λ (s : List ℕ). s ++ (mates f ++ (phis f ++ rows f))) new)
-    ∙ sym (parts (withRank f v x))
-
--- the entry for a mate has two bytes, set one after the other
-set-mates : (f : Fields) (v x : ℕ) → v < 256 → set (set (mates f) (2 * v + 0) (x % 256)) (2 * v + 1) (x / 256) ≡ mates (withMate f v x)
-unfolding withMate two
-set-mates f v x l =
-    let old : ℕ → List ℕ = λ u. two (f .mate u) in
-    let half : ℕ → List ℕ = upd old v (x % 256 ∷ f .mate v / 256 ∷ []) in
-    let new : ℕ → List ℕ = λ u. two (upd (f .mate) v x u) in
-    let same : half v ≡ x % 256 ∷ f .mate v / 256 ∷ [] = upd-same old v _ v refl in
-    let other : (u : ℕ) → u ≢ v → half u ≡ old u = upd-other old v _ in
-    let wide : (u : ℕ) → length (half u) ≡ 2 = λ u. elim (eq? u v) [
-      | inl e ↦ ap length (upd-same old v _ u e)
-      | inr d ↦ ap length (other u d)
-    ] in
-    ap (λ (s : List ℕ). set s (2 * v + 1) (x / 256))
-    (set-each 2 old half (λ u. refl) 256 v 0 (x % 256) l (omega arith) (sym same) (λ u c d. sym (other u d)))
-    ∙ set-each 2 half new wide 256 v 1 (x / 256) l (omega arith)
-    (ap (λ (s : List ℕ). set s 1 (x / 256)) same ∙ ap two (sym (upd-same (f .mate) v x v refl)))
-    (λ u c d. other u d ∙ ap two (sym (upd-other (f .mate) v x u d)))
-
-pub setMate-image : (f : Fields) (v x : ℕ) → v < 256 → setMate (image f) v x ≡ image (withMate f v x)
-unfolding setMate withMate
-setMate-image f v x l =
-    let low : 264 + 2 * v ≡ 264 + (2 * v + 0) = omega arith in
-    let high : 264 + 2 * v + 1 ≡ 264 + (2 * v + 1) = omega arith in
-    let rest : List ℕ = phis f ++ rows f in
-    ap (λ (s : List ℕ). setTwo s (264 + 2 * v) x) (parts f)
-    ∙ ap₂ (λ (i j : ℕ). set (set (heads f ++ (ranks f ++ (mates f ++ rest))) i (x % 256)) j (x / 256)) low high
-    ∙ ap (λ (s : List ℕ). set s (264 + (2 * v + 1)) (x / 256)) (past-ranks f (mates f ++ rest) (2 * v + 0) (x % 256))
-    ∙ past-ranks f _ (2 * v + 1) (x / 256)
-    ∙ ap (λ (s : List ℕ). heads f ++ (ranks f ++ s))
-    (ap (λ (s : List ℕ). set s (2 * v + 1) (x / 256)) (set-append-left (mates f) rest (2 * v + 0) (x % 256) (omega (arith, mates-length f)))
-    ∙ set-append-left (set (mates f) (2 * v + 0) (x % 256)) rest (2 * v + 1) (x / 256) (simp length-set (omega (arith, mates-length f)))
-    ∙ ap (λ (s : List ℕ). s ++ rest) (set-mates f v x l))
-    ∙ sym (parts (withMate f v x))
-
-pub setPhi-image : (f : Fields) (v j x : ℕ) → v < 256 → j < 4 → setPhi (image f) v j x ≡ image (withPhi f v j x)
-unfolding setPhi withPhi
-setPhi-image f v j x l k =
-    let row : ℕ → ℕ = upd (f .phi v) j x in
-    let new : set (phis f) (4 * v + j) x ≡ phis (withPhi f v j x) =
-    set-each 4 _ _ (λ u. each-one-length (f .phi u) 4) 256 v j x l k
-    (set-each-one (f .phi v) row 4 j x k (sym (upd-same (f .phi v) j x j refl)) (λ u c d. sym (upd-other (f .phi v) j x u d))
-    ∙ ap (λ (p : ℕ → ℕ). each 4 (λ i. p i ∷ [])) (sym (upd-same (f .phi) v row v refl)))
-    (λ u c d. ap (λ (p : ℕ → ℕ). each 4 (λ i. p i ∷ [])) (sym (upd-other (f .phi) v row u d))) in
-    ap (λ (s : List ℕ). set s (776 + (4 * v + j)) x) (parts f) ∙ past-mates f _ (4 * v + j) x
-    ∙ ap (λ (s : List ℕ). heads f ++ (ranks f ++ (mates f ++ s)))
-    (set-append-left (phis f) (rows f) (4 * v + j) x (omega (arith, phis-length f)) ∙ ap (λ (s : List ℕ). s ++ rows f) new)
-    ∙ sym (parts (withPhi f v j x))
-
--- a row with one place changed: only the byte that holds it
-set-row : (f : Fields) (v w x : ℕ) (b : Bool) → v < 256 → w < 256 → x ≡ rowByte (upd (f .owns v) w b) (w / 8)
-    → set (image f) (1800 + (32 * v + w / 8)) x ≡ image (withOwns f v w b)
-unfolding withOwns
-set-row f v w x b l k e =
-    let row : ℕ → Bool = upd (f .owns v) w b in
-    let new : set (rows f) (32 * v + w / 8) x ≡ rows (withOwns f v w b) =
-    set-each 32 _ _ (λ u. each-one-length (rowByte (f .owns u)) 32) 256 v (w / 8) x l (omega arith)
-    (set-each-one (rowByte (f .owns v)) (rowByte row) 32 (w / 8) x (omega arith) e (λ u c d. rowByte-other (f .owns v) w b u d)
-    ∙ ap (λ (p : ℕ → Bool). each 32 (λ i. rowByte p i ∷ [])) (sym (upd-same (f .owns) v row v refl)))
-    (λ u c d. ap (λ (p : ℕ → Bool). each 32 (λ i. rowByte p i ∷ [])) (sym (upd-other (f .owns) v row u d))) in
-    ap (λ (s : List ℕ). set s (1800 + (32 * v + w / 8)) x) (parts f) ∙ past-phis f (rows f) (32 * v + w / 8) x
-    ∙ ap (λ (s : List ℕ). heads f ++ (ranks f ++ (mates f ++ (phis f ++ s)))) new
-    ∙ sym (parts (withOwns f v w b))
-
--- the byte and the bit of a place of row v, in the whole buffer
-place-byte : (v w : ℕ) → (14400 + (256 * v + w)) / 8 ≡ 1800 + (32 * v + w / 8)
-place-byte v w = omega arith
-
-place-bit : (v w : ℕ) → (14400 + (256 * v + w)) % 8 ≡ w % 8
-place-bit v w = omega arith
-
-pub own-image : (f : Fields) (v w : ℕ) → v < 256 → w < 256 → own (image f) v w ≡ image (withOwns f v w true)
-unfolding inserted
-own-image f v w l k =
-    ap₂ (λ (i j : ℕ). set (image f) i (bitOr (getD (image f) i 0) (2 ^ j))) (place-byte v w) (place-bit v w)
-    ∙ set-row f v w _ true l k
-    (ap (λ (x : ℕ). bitOr x (2 ^ (w % 8))) (row-byte f v (w / 8) l (omega arith)) ∙ rowByte-or (f .owns v) w)
-
-pub disown-image : (f : Fields) (v w : ℕ) → v < 256 → w < 256 → disown (image f) v w ≡ image (withOwns f v w false)
-unfolding removed
-disown-image f v w l k =
-    ap₂ (λ (i j : ℕ). set (image f) i (bitAnd (getD (image f) i 0) (255 - 2 ^ j))) (place-byte v w) (place-bit v w)
-    ∙ set-row f v w _ false l k
-    (ap (λ (x : ℕ). bitAnd x (255 - 2 ^ (w % 8))) (row-byte f v (w / 8) l (omega arith)) ∙ rowByte-and (f .owns v) w)
-
--- ---- a whole word of a row
+withWord f v k p = record {
+  kind = f .kind;
+  n = f .n;
+  edges = f .edges;
+  rank = f .rank;
+  mate = f .mate;
+  phi = f .phi;
+  owns = upd (f .owns) v (worded (f .owns v) k p);
+}
 
 module _ (f : Fields) (v k : ℕ) (p : ℕ → Bool) where
   pub word-in : (u w : ℕ) → u ≡ v → 64 * k ≤ w → w < 64 * k + 64 → withWord f v k p .owns u w ≡ p w
@@ -223,58 +119,120 @@ module _ (f : Fields) (v k : ℕ) (p : ℕ → Bool) where
         | inr d ↦ ap (λ (row : ℕ → Bool). row w) (upd-other (f .owns) v (worded (f .owns v) k p) u d)
       ]
 
--- the bytes of the rows
-rows-at : (f : Fields) (u b : ℕ) → u < 256 → b < 32 → getD (rows f) (32 * u + b) 0 ≡ rowByte (f .owns u) b
-rows-at f u b l h =
-    each-at 32 _ (λ u. each-one-length (rowByte (f .owns u)) 32) 256 u b 0 l h ∙ each-one-at (rowByte (f .owns u)) 32 b 0 h
+-- ---- each setter on an image: the number that it sets, in which of `parts`, from 0, and where it stands
 
--- a word stored behind some parts leaves those parts as they are
-past-stored : (f : Fields) (t : List ℕ) (i x m : ℕ)
-    → storedBytes (heads f ++ (ranks f ++ (mates f ++ (phis f ++ t)))) (1800 + i) x m
-    ≡ heads f ++ (ranks f ++ (mates f ++ (phis f ++ storedBytes t i x m)))
-unfolding storedBytes
-past-stored f t i x zero = refl
-past-stored f t i x (suc m) =
-    let e : 1800 + i + m ≡ 1800 + (i + m) = omega arith in
-    let b = x / 2 ^ (8 * m) % 256 in
-    ap₂ (λ (s : List ℕ) (n : ℕ). set s n b) (past-stored f t i x m) e ∙ past-phis f (storedBytes t i x m) (i + m) b
+-- a table with one entry changed, row after row: only that number is
+rows-other : (f g : ℕ → ℕ → ℕ) (m k v j : ℕ) → ((p q : ℕ) → (p ≡ v → q ≢ j) → f p q ≡ g p q)
+    → (u : ℕ) → u < m * k → u ≢ k * v + j → byRows k f u ≡ byRows k g u
+rows-other f g m k v j same u l d =
+    rows-ext f g m k u l (λ p q b c e. same p q (λ a z. d (e ∙ ap₂ (λ (x y : ℕ). k * x + y) a z)))
 
-module _ (f : Fields) (v k x : ℕ) (p : ℕ → Bool) (l : v < 256) (c : 64 * k < 256) (same : (j : ℕ) → j < 64 → bitOf x j ≡ p (64 * k + j)) where
-  -- a byte of the rows: within the word it is one of x, elsewhere it stays
-  stored-byte : (u b : ℕ) → u < 256 → b < 32 → getD (stored (rows f) (32 * v + 8 * k) x) (32 * u + b) 0 ≡ rowByte (withWord f v k p .owns u) b
-  stored-byte u b d h = elim (eq? (4 * u + b / 8) (4 * v + k)) [
-    | inl e ↦
-        let a = b % 8 in
-        let i : 32 * u + b ≡ 32 * v + 8 * k + a = omega arith in
-        ap (λ (n : ℕ). getD (stored (rows f) (32 * v + 8 * k) x) n 0) i
-        ∙ stored-in (rows f) (32 * v + 8 * k) x a (omega arith) (omega (arith, rows-length f))
-        ∙ sym (rowByte-of (x / 2 ^ (8 * a) % 256) (omega arith) (withWord f v k p .owns u) b (λ j m.
-        let q : 8 * b + j ≡ 64 * k + (8 * a + j) = omega arith in
-        word-in f v k p u (8 * b + j) (omega arith) (omega arith) (omega arith) ∙ ap p q ∙ sym (same (8 * a + j) (omega arith)) ∙ sym (bit-byte x a j m)))
-    | inr n ↦
-        stored-out (rows f) (32 * v + 8 * k) x (32 * u + b) (λ a m. n (omega arith)) ∙ rows-at f u b d h
-        ∙ rowByte-ext (f .owns u) (withWord f v k p .owns u) b (λ j m. sym (word-out f v k p u (8 * b + j) (λ e q r. n (omega arith))))
-  ]
+module _ (f : Fields) (good : Good (f .kind .shape)) where
+  abbrev S : Shape
+  S = f .kind .shape
 
-  stored-rows : stored (rows f) (32 * v + 8 * k) x ≡ rows (withWord f v k p)
-  stored-rows =
-      let g = withWord f v k p in
-      let old = stored (rows f) (32 * v + 8 * k) x in
-      let long : length old ≡ 8192 = length-stored (rows f) (32 * v + 8 * k) x ∙ rows-length f in
-      ext-getD 0 old (rows g) (long ∙ sym (rows-length g))
-      (λ i h.
-      let u = i / 32 in
-      let b = i % 32 in
-      let e : i ≡ 32 * u + b = omega arith in
-      let d : u < 256 = omega (arith, long) in
-      ap (λ (n : ℕ). getD old n 0) e ∙ stored-byte u b d (omega arith) ∙ sym (rows-at g u b d (omega arith))
-      ∙ ap (λ (n : ℕ). getD (rows g) n 0) (sym e))
+  -- the lower half of the number of edges, and what is left of it
+  pub setEdges-image : (x : ℕ) → setEdges S (image f) x ≡ image (withEdges f x)
+  unfolding setEdges image withEdges
+  setEdges-image x =
+      let lower : ℕ → ℕ = λ i. x % half in
+      ap (λ (l : List ℕ). setNum (2 - S .spare) l (6 + S .spare) (x / half))
+      (set-part 1 (parts f) lower 0 2 (x % half) (omega arith) (omega arith) refl (λ u l d. absurd (omega arith)))
+      ∙ set-part 3 (put 1 lower (parts f)) (λ i. x / half) 0 (6 + S .spare) (x / half) (omega arith) (omega arith) refl (λ u l d. absurd (omega arith))
 
-pub setWord-image : (f : Fields) (v k x : ℕ) (p : ℕ → Bool) → v < 256 → 64 * k < 256 → x < 2 ^ 64
-    → ((j : ℕ) → j < 64 → bitOf x j ≡ p (64 * k + j)) → setWord (image f) v k x ≡ image (withWord f v k p)
-unfolding stored withWord
-setWord-image f v k x p l c fits same =
-    let e : 1800 + 32 * v + 8 * k ≡ 1800 + (32 * v + 8 * k) = omega arith in
-    ap₂ (λ (s : List ℕ) (n : ℕ). storedBytes s n x 8) (parts f) e ∙ past-stored f (rows f) (32 * v + 8 * k) x 8
-    ∙ ap (λ (s : List ℕ). heads f ++ (ranks f ++ (mates f ++ (phis f ++ s)))) (stored-rows f v k x p l c same)
-    ∙ sym (parts (withWord f v k p))
+  pub setRank-image : (v x : ℕ) → v < S .most → setRank (image f) v x ≡ image (withRank f v x)
+  unfolding setRank setNum image withRank
+  setRank-image v x l =
+      set-part 4 (parts f) (upd (f .rank) v x) v (ranksFrom + v) x l (omega (arith, good .spare)) (sym (upd-same (f .rank) v x v refl))
+      (λ u b d. sym (upd-other (f .rank) v x u d))
+
+  pub setMate-image : (v x : ℕ) → v < S .most → setMate S (image f) v x ≡ image (withMate f v x)
+  unfolding setMate image withMate
+  setMate-image v x l =
+      set-part 5 (parts f) (upd (f .mate) v x) v (matesFrom S + 2 * v) x l (omega (arith, good .spare)) (sym (upd-same (f .mate) v x v refl))
+      (λ u b d. sym (upd-other (f .mate) v x u d))
+
+  pub setPhi-image : (v j x : ℕ) → v < S .most → j < S .levels → setPhi S (image f) v j x ≡ image (withPhi f v j x)
+  unfolding setPhi image withPhi
+  setPhi-image v j x l h =
+      let new : ℕ → ℕ → ℕ = entered (f .phi) v j x in
+      let i : ℕ = S .levels * v + j in
+      set-part 6 (parts f) (byRows (S .levels) new) i (phisFrom S + S .width * i) x (rows-inside (S .most) (S .levels) v j l h)
+      (omega (arith, good .spare)) (sym (rows-at new (S .levels) v j h ∙ entry-same (f .phi) v j x))
+      (rows-other (f .phi) new (S .most) (S .levels) v j (λ p q d. sym (entry-other (f .phi) v j x p q d)))
+
+  -- a row with one place changed: only the byte that holds it
+  set-row : (v w x : ℕ) (b : Bool) → v < S .most → w < S .most → x ≡ rowByte (upd (f .owns v) w b) (w / 8)
+      → set (image f) (rowsFrom S + (S .row * v + w / 8)) x ≡ image (withOwns f v w b)
+  unfolding setNum image withOwns
+  set-row v w x b l h e =
+      let new : ℕ → ℕ → ℕ = λ u. rowByte (entered (f .owns) v w b u) in
+      let i : ℕ = S .row * v + w / 8 in
+      let inside : w / 8 < S .row = omega (arith, good .rows) in
+      let row : upd (f .owns v) w b ≡ entered (f .owns) v w b v = sym (upd-same (f .owns) v (upd (f .owns v) w b) v refl) in
+      set-part 7 (parts f) (byRows (S .row) new) i (rowsFrom S + i) x (rows-inside (S .most) (S .row) v (w / 8) l inside)
+      (omega (arith, good .spare)) (e ∙ ap (λ (r : ℕ → Bool). rowByte r (w / 8)) row ∙ sym (rows-at new (S .row) v (w / 8) inside))
+      (rows-other (λ u. rowByte (f .owns u)) new (S .most) (S .row) v (w / 8)
+      (λ p q d. rowByte-ext (f .owns p) (entered (f .owns) v w b p) q
+      (λ a c. sym (entry-other (f .owns) v w b p (8 * q + a) (λ z y. d z (omega arith))))))
+
+  -- the byte and the bit of a place of row v, in the whole buffer
+  place-byte : (v w : ℕ) → rowPlace S v w / 8 ≡ rowsFrom S + (S .row * v + w / 8)
+  place-byte v w = omega arith
+
+  place-bit : (v w : ℕ) → rowPlace S v w % 8 ≡ w % 8
+  place-bit v w = omega arith
+
+  pub own-image : (v w : ℕ) → v < S .most → w < S .most → own S (image f) v w ≡ image (withOwns f v w true)
+  unfolding inserted
+  own-image v w l k =
+      ap₂ (λ (i j : ℕ). set (image f) i (bitOr (getD (image f) i 0) (2 ^ j))) (place-byte v w) (place-bit v w)
+      ∙ set-row v w _ true l k
+      (ap (λ (x : ℕ). bitOr x (2 ^ (w % 8))) (row-byte f good v (w / 8) l (omega (arith, good .rows))) ∙ rowByte-or (f .owns v) w)
+
+  pub disown-image : (v w : ℕ) → v < S .most → w < S .most → disown S (image f) v w ≡ image (withOwns f v w false)
+  unfolding removed
+  disown-image v w l k =
+      ap₂ (λ (i j : ℕ). set (image f) i (bitAnd (getD (image f) i 0) (255 - 2 ^ j))) (place-byte v w) (place-bit v w)
+      ∙ set-row v w _ false l k
+      (ap (λ (x : ℕ). bitAnd x (255 - 2 ^ (w % 8))) (row-byte f good v (w / 8) l (omega (arith, good .rows))) ∙ rowByte-and (f .owns v) w)
+
+  -- a whole word of a row: m bytes of x, stored one after the other from byte i of the rows on, make new numbers of the old
+  store-rows : (old new : ℕ → ℕ) (i x m : ℕ) → i + m ≤ S .most * S .row
+      → ((a : ℕ) → a < m → x / 2 ^ (8 * a) % 256 ≡ new (i + a))
+      → ((u : ℕ) → u < S .most * S .row → (i ≤ u → u < i + m → ⊥) → old u ≡ new u)
+      → storedBytes (bytesOf (put 7 old (parts f))) (rowsFrom S + i) x m ≡ bytesOf (put 7 new (parts f))
+  unfolding storedBytes setNum
+  store-rows old new i x zero h in-word out = put-ext 7 (parts f) old new (λ u l. out u l (λ a b. omega arith))
+  store-rows old new i x (suc m) h in-word out =
+      let less : ℕ → ℕ = upd new (i + m) (old (i + m)) in
+      ap (λ (l : List ℕ). set l (rowsFrom S + i + m) (x / 2 ^ (8 * m) % 256))
+      (store-rows old less i x m (omega arith)
+      (λ a l. in-word a (omega arith) ∙ sym (upd-other new (i + m) (old (i + m)) (i + a) (omega arith)))
+      (λ u l n. elim (eq? u (i + m)) [
+        | inl e ↦ ap old e ∙ sym (upd-same new (i + m) (old (i + m)) u e)
+        | inr d ↦ out u l (λ a b. n a (omega arith)) ∙ sym (upd-other new (i + m) (old (i + m)) u d)
+      ]))
+      ∙ set-part 7 (put 7 less (parts f)) new (i + m) (rowsFrom S + i + m) _ (omega arith) (omega (arith, good .spare)) (in-word m (omega arith))
+      (λ u l d. upd-other new (i + m) (old (i + m)) u d)
+
+  pub setWord-image : (v k x : ℕ) (p : ℕ → Bool) → v < S .most → 64 * k < S .most → x < 2 ^ 64
+      → ((j : ℕ) → j < 64 → bitOf x j ≡ p (64 * k + j)) → setWord S (image f) v k x ≡ image (withWord f v k p)
+  unfolding stored image withWord
+  setWord-image v k x p l c fits same =
+      let g : Fields = withWord f v k p in
+      let i : ℕ = S .row * v + 8 * k in
+      let at : rowsFrom S + S .row * v + 8 * k ≡ rowsFrom S + i = omega arith in
+      let whole : 8 * k + 8 ≤ S .row = omega (arith, good .rows, good .words) in
+      let rows : Fields → ℕ → ℕ = λ h. byRows (S .row) (λ u. rowByte (h .owns u)) in
+      ap (λ (m : ℕ). storedBytes (image f) m x 8) at
+      ∙ store-rows (rows f) (rows g) i x 8 (omega (arith, rows-inside (S .most) (S .row) v (8 * k + 7) l (omega arith)))
+      (λ a b.
+      let e : i + a ≡ S .row * v + (8 * k + a) = omega arith in
+      sym (ap (rows g) e ∙ rows-at (λ u. rowByte (g .owns u)) (S .row) v (8 * k + a) (omega arith)
+      ∙ rowByte-of (x / 2 ^ (8 * a) % 256) (omega arith) (g .owns v) (8 * k + a) (λ j m.
+      let q : 8 * (8 * k + a) + j ≡ 64 * k + (8 * a + j) = omega arith in
+      word-in f v k p v (8 * (8 * k + a) + j) refl (omega arith) (omega arith) ∙ ap p q ∙ sym (same (8 * a + j) (omega arith)) ∙ sym (bit-byte x a j m))))
+      (λ u b n. rows-ext _ _ (S .most) (S .row) u b (λ w q d h e.
+      rowByte-ext (f .owns w) (g .owns w) q (λ j m. sym (word-out f v k p w (8 * q + j) (λ z y r.
+      n (omega (arith, ap (λ (t : ℕ). S .row * t) z)) (omega (arith, ap (λ (t : ℕ). S .row * t) z)))))))

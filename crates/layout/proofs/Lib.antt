@@ -3,6 +3,7 @@ pub mod Parts
 pub mod Pieces
 pub mod Tables
 pub mod Images
+pub mod Apart
 pub mod Cleared
 pub mod Said
 pub mod Spans

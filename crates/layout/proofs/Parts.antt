@@ -6,61 +6,56 @@ use native.Mathlib.Omega.{arith}
 use lib.Dec.{T}
 use lib.ListN.{length, getD, take, drop, length-take, length-drop}
 use Rattle.model.specs.Counting.{count}
-use Rattle.model.specs.Bytes.{most, bitOf, ownsAt}
+use Rattle.model.specs.Shape.{Shape, Good, rowsFrom}
+use Rattle.model.specs.Bytes.{ownsAt}
+use Rattle.model.specs.Parts.{bitOf}
 use Rattle.model.proofs.Prefix.{count-ext}
 use Rattle.bitset.specs.Row.{member, size, Nth, Next}
 use Rattle.bitset.proofs.Laws.{member-part}
-use Rattle.layout.specs.Setters.{Sized}
+use Rattle.layout.specs.Setters.{Sized, NumberAt, rowPlace}
 use Rattle.layout.specs.Rows.{degreeAt, NthOwned, NextOwned}
 
 -- a bit of row v, as a place of the whole buffer
-pub owns-place : (bs : List ℕ) (v w : ℕ) → member bs (14400 + (256 * v + w)) ≡ ownsAt bs v w
+pub owns-place : (S : Shape) (bs : List ℕ) (v w : ℕ) → member bs (rowPlace S v w) ≡ ownsAt S bs v w
 unfolding member ownsAt
-owns-place bs v w =
-    let p : (14400 + (256 * v + w)) / 8 ≡ 1800 + (32 * v + w / 8) = omega arith in
-    let q : (14400 + (256 * v + w)) % 8 ≡ w % 8 = omega arith in
+owns-place S bs v w =
+    let at = rowsFrom S + S .row * v in
+    let p : (8 * at + w) / 8 ≡ rowsFrom S + (S .row * v + w / 8) = omega arith in
+    let q : (8 * at + w) % 8 ≡ w % 8 = omega arith in
     ap₂ (λ (x y : ℕ). bitOf (getD bs x 0) y) p q
 
--- and as one of the row that begins at byte 1,800 + 32 v
-pub row-place : (v w : ℕ) → 8 * (1800 + 32 * v) + w ≡ 14400 + (256 * v + w)
-row-place v w = omega arith
+-- the row that stands at `at`, as the code cuts it out
+abbrev rowOf : Shape → List ℕ → ℕ → List ℕ
+rowOf S bs at = take (at + S .row - at) (drop at bs)
 
--- the row of v
-unfoldable pub rowOf : List ℕ → ℕ → List ℕ
-rowOf bs v = take 32 (drop (1800 + 32 * v) bs)
+module _ {S : Shape} (good : Good S) (bs : List ℕ) {v at : ℕ} (sized : Sized S bs) (place : NumberAt S (rowsFrom S) (S .row) v at) where
+  pub row-length : length (rowOf S bs at) ≡ S .row
+  row-length = simp (length-take, length-drop) (omega (arith, place .within))
 
--- as the code cuts it out
-pub part-row : (bs : List ℕ) (v : ℕ) → take (1800 + 32 * v + 32 - (1800 + 32 * v)) (drop (1800 + 32 * v) bs) ≡ rowOf bs v
-unfolding rowOf
-part-row bs v =
-    let e : 1800 + 32 * v + 32 - (1800 + 32 * v) ≡ 32 = omega arith in
-    ap (λ (n : ℕ). take n (drop (1800 + 32 * v) bs)) e
+  -- it has a place for each vertex
+  row-places : 8 * length (rowOf S bs at) ≡ S .most
+  row-places = omega (arith, row-length, good .rows)
 
-module _ (bs : List ℕ) (v : ℕ) (sized : Sized bs) (inside : v < most) where
-  pub row-length : length (rowOf bs v) ≡ 32
-  unfolding rowOf
-  row-length = simp (length-take, length-drop) (omega arith)
+  pub row-owns : (w : ℕ) → w < S .most → member (rowOf S bs at) w ≡ ownsAt S bs v w
+  row-owns w h =
+      member-part bs at (at + S .row - at) w (omega (arith, good .rows)) ∙ ap (λ (k : ℕ). member bs (8 * k + w)) (place .at) ∙ owns-place S bs v w
 
-  pub row-owns : (w : ℕ) → w < 256 → member (rowOf bs v) w ≡ ownsAt bs v w
-  unfolding rowOf
-  row-owns w h = member-part bs (1800 + 32 * v) 32 w (omega arith) ∙ ap (member bs) (row-place v w) ∙ owns-place bs v w
+  count-row : (m : ℕ) → m ≤ S .most → count (member (rowOf S bs at)) m ≡ count (ownsAt S bs v) m
+  count-row m h = count-ext (member (rowOf S bs at)) (ownsAt S bs v) m (λ w k. row-owns w (omega arith))
 
-  count-row : (m : ℕ) → m ≤ 256 → count (member (rowOf bs v)) m ≡ count (ownsAt bs v) m
-  count-row m h = count-ext (member (rowOf bs v)) (ownsAt bs v) m (λ w k. row-owns w (omega arith))
-
-  pub row-degree : size (rowOf bs v) ≡ degreeAt bs v
+  pub row-degree : size (rowOf S bs at) ≡ degreeAt S bs v
   unfolding size degreeAt
-  row-degree = ap (λ (x : ℕ). count (member (rowOf bs v)) (8 * x)) row-length ∙ count-row 256 (omega arith)
+  row-degree = ap (count (member (rowOf S bs at))) row-places ∙ count-row (S .most) (omega arith)
 
-  pub row-nth : (k r : ℕ) → Nth (rowOf bs v) k r → NthOwned bs v k r
+  pub row-nth : (k r : ℕ) → Nth (rowOf S bs at) k r → NthOwned S bs v k r
   row-nth k r n =
-      let i : r < 256 = omega (arith, n .inside, row-length) in
+      let i : r < S .most = omega (arith, n .inside, row-places) in
       record { inside = i; is = subst T (row-owns r i) (n .is); before = sym (count-row r (omega arith)) ∙ n .before }
 
-  pub row-next : (from r : ℕ) → Next (rowOf bs v) from r → NextOwned bs v from r
+  pub row-next : (from r : ℕ) → Next (rowOf S bs at) from r → NextOwned S bs v from r
   row-next from r n = record {
     after = n .after;
-    within = omega (arith, n .within, row-length);
-    none = λ w a b t. n .none w a b (subst T (sym (row-owns w (omega (arith, n .within, row-length)))) t);
-    is = λ h. subst T (row-owns r h) (n .is (omega (arith, row-length)));
+    within = omega (arith, n .within, row-places);
+    none = λ w a b t. n .none w a b (subst T (sym (row-owns w (omega (arith, n .within, row-places)))) t);
+    is = λ h. subst T (row-owns r h) (n .is (omega (arith, row-places)));
   }

@@ -1,98 +1,140 @@
--- One byte set in a list that is put together of chunks, and one bit set in the byte of a row. Assumes nothing.
-use mathlib.Core.Path.{_≡_, refl, sym, ap, subst, _∙_}
+-- A number set in the bytes of some parts, for a number of any width in any part; and one bit set in the byte of a row. Assumes nothing.
+use mathlib.Core.Path.{_≡_, refl, sym, ap, ap₂, _∙_}
 use mathlib.Core.Logic.{_≢_, inl, inr}
 use mathlib.Core.Bool.{Bool, true, false}
-use mathlib.Core.List.{List, [], _∷_, _++_}
-use Prim.Native.Nat.{ℕ, zero, suc, _+_, _-_, _*_, _/_, _%_, _^_, _<_}
-use native.Mathlib.Nat.{mul-suc}
+use mathlib.Core.List.{List, [], _∷_, _++_, append-assoc, append-nil}
+use Prim.Native.Nat.{ℕ, zero, suc, _+_, _-_, _*_, _/_, _%_, _^_, _≤_, _<_}
+use native.Mathlib.Nat.{mul-suc, mul-comm, mul-le-mul-left}
 use native.Mathlib.Omega.{arith}
 use lib.Dec.{eqb}
-use lib.ListN.{length, set}
+use lib.ListN.{length, set, length-set}
 use lib.Seq.{set-append-left}
 use lib.Bits.{bitAnd, bitOr, or-lt, and-le-l, or-zero-r, and-zero-r}
 use lib.Pow.{pow-lt}
 use borrow.Author.Tests.{eq-eqb, ne-eqb}
 use Rattle.model.specs.Counting.{bit, eachOnto, each, upd}
-use Rattle.model.specs.Bytes.{bitOf, rowByte}
+use Rattle.model.specs.Parts.{num, bitOf, rowByte, Part, numbers, bytesOf}
 use Rattle.model.proofs.Tests.{eq?}
 use Rattle.model.proofs.Counting.{sum-eq}
 use Rattle.model.proofs.Lists.{upd-same, upd-other}
-use Rattle.model.proofs.Chunks.{rowByte-small, bit-rowByte, rowByte-of}
+use Rattle.model.proofs.Chunks.{each-length, each-ext, rowByte-small, bit-rowByte, rowByte-of}
+use Rattle.model.proofs.Parts.{num-length, span, chunks, chunks-length, part, offset}
 use Rattle.bitset.proofs.Digits.{digit, digit-lt, digit-or, digit-and, digit-bit, digit-hole, or-one, and-one}
+use Rattle.layout.specs.Setters.{setNum}
 
--- ---- lists
+-- ---- a number set in a list
 
 -- what is set behind a front of n elements leaves the front as it is
-pub set-behind : (a b : List ℕ) (n i x : ℕ) → length a ≡ n → set (a ++ b) (n + i) x ≡ a ++ set b i x
+set-behind : (a b : List ℕ) (n i x : ℕ) → length a ≡ n → set (a ++ b) (n + i) x ≡ a ++ set b i x
 set-behind [] b n i x e = ap (λ (k : ℕ). set b k x) (omega arith)
 set-behind (y ∷ a) b n i x e =
     let k : n + i ≡ suc (length a + i) = omega arith in
     ap (λ (m : ℕ). set (y ∷ (a ++ b)) m x) k ∙ ap (λ (l : List ℕ). y ∷ l) (set-behind a b (length a) i x refl)
 
--- chunks that are equal make equal lists
-eachOnto-ext : (f g : ℕ → List ℕ) (n : ℕ) (l : List ℕ) → ((v : ℕ) → v < n → f v ≡ g v) → eachOnto f n l ≡ eachOnto g n l
-unfolding eachOnto
-eachOnto-ext f g zero l h = refl
-eachOnto-ext f g (suc n) l h =
-    ap (λ (c : List ℕ). eachOnto f n (c ++ l)) (h n (omega arith)) ∙ eachOnto-ext f g n (g n ++ l) (λ v b. h v (omega arith))
+setNum-behind : (w : ℕ) (a b : List ℕ) (n i x : ℕ) → length a ≡ n → setNum w (a ++ b) (n + i) x ≡ a ++ setNum w b i x
+unfolding setNum
+setNum-behind zero a b n i x e = refl
+setNum-behind (suc zero) a b n i x e = set-behind a b n i x e
+setNum-behind (suc (suc w)) a b n i x e =
+    let q : n + i + 1 ≡ n + (i + 1) = omega arith in
+    ap₂ (λ (l : List ℕ) (m : ℕ). setNum (suc w) l m (x / 256)) (set-behind a b n i (x % 256) e) q
+    ∙ setNum-behind (suc w) a (set b i (x % 256)) n (i + 1) (x / 256) e
 
-pub each-ext : (f g : ℕ → List ℕ) (n : ℕ) → ((v : ℕ) → v < n → f v ≡ g v) → each n f ≡ each n g
-unfolding each
-each-ext f g n h = eachOnto-ext f g n [] h
+-- what is set within a front leaves the rest as it is
+setNum-left : (w : ℕ) (a b : List ℕ) (i x : ℕ) → i + w ≤ length a → setNum w (a ++ b) i x ≡ setNum w a i x ++ b
+unfolding setNum
+setNum-left zero a b i x h = refl
+setNum-left (suc zero) a b i x h = set-append-left a b i x (omega arith)
+setNum-left (suc (suc w)) a b i x h =
+    ap (λ (l : List ℕ). setNum (suc w) l (i + 1) (x / 256)) (set-append-left a b i (x % 256) (omega arith))
+    ∙ setNum-left (suc w) (set a i (x % 256)) b (i + 1) (x / 256) (simp length-set (omega arith))
 
--- chunks of one width k, element i of chunk v set: only chunk v changes
-module _ (k : ℕ) (f g : ℕ → List ℕ) (wide : (v : ℕ) → length (f v) ≡ k) where
-  set-past : (n : ℕ) (l : List ℕ) (i x : ℕ) → set (eachOnto f n l) (k * n + i) x ≡ eachOnto f n (set l i x)
-  unfolding eachOnto
-  set-past zero l i x = ap (λ (m : ℕ). set l m x) (omega arith)
-  set-past (suc n) l i x =
-      let e : k * suc n + i ≡ k * n + (k + i) = omega (arith, mul-suc k n) in
-      ap (λ (m : ℕ). set (eachOnto f n (f n ++ l)) m x) e ∙ set-past n (f n ++ l) (k + i) x
-      ∙ ap (eachOnto f n) (set-behind (f n) l k i x (wide n))
+-- a number set over one of its width
+setNum-over : (w y x : ℕ) → setNum w (num w y) 0 x ≡ num w x
+unfolding setNum num
+setNum-over zero y x = refl
+setNum-over (suc zero) y x = refl
+setNum-over (suc (suc w)) y x =
+    setNum-behind (suc w) (x % 256 ∷ []) (num (suc w) (y / 256)) 1 0 (x / 256) refl
+    ∙ ap (λ (l : List ℕ). x % 256 ∷ l) (setNum-over (suc w) (y / 256) (x / 256))
 
-  set-eachOnto : (n : ℕ) (l : List ℕ) (v i x : ℕ) → v < n → i < k → set (f v) i x ≡ g v → ((u : ℕ) → u < n → u ≢ v → f u ≡ g u)
-      → set (eachOnto f n l) (k * v + i) x ≡ eachOnto g n l
-  unfolding eachOnto
-  set-eachOnto zero l v i x b c same other = absurd (omega arith)
-  set-eachOnto (suc n) l v i x b c same other = elim (eq? v n) [
-    | inl e ↦
-        ap (λ (m : ℕ). set (eachOnto f n (f n ++ l)) (k * m + i) x) e ∙ set-past n (f n ++ l) i x
-        ∙ ap (eachOnto f n)
-        (set-append-left (f n) l i x (omega (arith, wide n))
-        ∙ ap (λ (c : List ℕ). c ++ l) (subst (λ (m : ℕ). set (f m) i x ≡ g m) e same))
-        ∙ eachOnto-ext f g n (g n ++ l) (λ u d. other u (omega arith) (omega arith))
-    | inr e ↦
-        set-eachOnto n (f n ++ l) v i x (omega arith) c same (λ u d. other u (omega arith))
-        ∙ ap (λ (c : List ℕ). eachOnto g n (c ++ l)) (other n (omega arith) (omega arith))
-  ]
+-- ---- a number set among numbers of its width
 
-  pub set-each : (n v i x : ℕ) → v < n → i < k → set (f v) i x ≡ g v → ((u : ℕ) → u < n → u ≢ v → f u ≡ g u)
-      → set (each n f) (k * v + i) x ≡ each n g
-  unfolding each
-  set-each n v i x b c same other = set-eachOnto n [] v i x b c same other
+-- one chunk more
+onto-append : (f : ℕ → List ℕ) (n : ℕ) (l : List ℕ) → eachOnto f n l ≡ each n f ++ l
+unfolding each eachOnto
+onto-append f zero l = refl
+onto-append f (suc n) l =
+    onto-append f n (f n ++ l) ∙ sym (append-assoc (each n f) (f n) l)
+    ∙ ap (λ (k : List ℕ). k ++ l) (ap (λ (k : List ℕ). each n f ++ k) (sym (append-nil (f n))) ∙ sym (onto-append f n (f n ++ [])))
 
--- the same of chunks of one element
-pub each-one-ext : (f g : ℕ → ℕ) (n : ℕ) → ((v : ℕ) → v < n → f v ≡ g v) → each n (λ v. f v ∷ []) ≡ each n (λ v. g v ∷ [])
-each-one-ext f g n h = each-ext _ _ n (λ v b. ap (λ (x : ℕ). x ∷ []) (h v b))
+pub each-next : (f : ℕ → List ℕ) (n : ℕ) → each (suc n) f ≡ each n f ++ f n
+unfolding each eachOnto
+each-next f n = onto-append f n (f n ++ []) ∙ ap (λ (k : List ℕ). each n f ++ k) (append-nil (f n))
 
-pub set-each-one : (f g : ℕ → ℕ) (n v x : ℕ) → v < n → x ≡ g v → ((u : ℕ) → u < n → u ≢ v → f u ≡ g u)
-    → set (each n (λ v. f v ∷ [])) v x ≡ each n (λ v. g v ∷ [])
-set-each-one f g n v x b same other =
-    let e : v ≡ 1 * v + 0 = omega arith in
-    ap (λ (m : ℕ). set (each n (λ v. f v ∷ [])) m x) e
-    ∙ set-each 1 (λ v. f v ∷ []) (λ v. g v ∷ []) (λ v. refl) n v 0 x b (omega arith) (ap (λ (y : ℕ). y ∷ []) same)
-    (λ u c d. ap (λ (y : ℕ). y ∷ []) (other u c d))
+-- number i becomes x: only its chunk changes
+module _ (w : ℕ) (f g : ℕ → ℕ) where
+  abbrev old : ℕ → List ℕ
+  old i = num w (f i)
 
--- ---- bytes
+  abbrev new : ℕ → List ℕ
+  new i = num w (g i)
+
+  set-each : (n i x : ℕ) → i < n → x ≡ g i → ((u : ℕ) → u < n → u ≢ i → f u ≡ g u) → setNum w (each n old) (w * i) x ≡ each n new
+  set-each zero i x l e other = absurd (omega arith)
+  set-each (suc n) i x l e other =
+      let long : length (each n old) ≡ w * n = each-length w old (λ u. num-length w (f u)) n ∙ mul-comm n w in
+      ap (λ (s : List ℕ). setNum w s (w * i) x) (each-next old n) ∙ elim (eq? i n) [
+        | inl d ↦
+            let at : w * i ≡ w * n + 0 = omega (arith, ap (λ (m : ℕ). w * m) d) in
+            ap (λ (m : ℕ). setNum w (each n old ++ old n) m x) at ∙ setNum-behind w (each n old) (old n) (w * n) 0 x long
+            ∙ ap₂ (λ (s t : List ℕ). s ++ t) (each-ext old new n (λ u b. ap (num w) (other u (omega arith) (omega arith))))
+            (setNum-over w (f n) x ∙ ap (num w) (e ∙ ap g d))
+        | inr d ↦
+            let before : suc i ≤ n = omega arith in
+            setNum-left w (each n old) (old n) (w * i) x (omega (arith, long, mul-suc w i, mul-le-mul-left w before))
+            ∙ ap₂ (λ (s t : List ℕ). s ++ t) (set-each n i x (omega arith) e (λ u b. other u (omega arith))) (ap (num w) (other n (omega arith) (omega arith)))
+      ] ∙ sym (each-next new n)
+
+-- ---- a number set in one of some parts
+
+-- the parts with the numbers of part k those of g
+abbrev pub put : ℕ → (ℕ → ℕ) → List Part → List Part
+put k g [] = []
+put zero g (p ∷ ps) = numbers (p .many) (p .width) g ∷ ps
+put (suc k) g (p ∷ ps) = p ∷ put k g ps
+
+pub put-ext : (k : ℕ) (ps : List Part) (f g : ℕ → ℕ) → ((u : ℕ) → u < part k ps .many → f u ≡ g u) → bytesOf (put k f ps) ≡ bytesOf (put k g ps)
+unfolding bytesOf
+put-ext k [] f g h = refl
+put-ext zero (p ∷ ps) f g h = ap (λ (s : List ℕ). s ++ bytesOf ps) (each-ext _ _ (p .many) (λ u l. ap (num (p .width)) (h u l)))
+put-ext (suc k) (p ∷ ps) f g h = ap (λ (s : List ℕ). chunks p ++ s) (put-ext k ps f g h)
+
+-- What every setter does: number i of part k becomes x.
+pub set-part : (k : ℕ) (ps : List Part) (g : ℕ → ℕ) (i at x : ℕ) → i < part k ps .many → at ≡ offset k ps + part k ps .width * i → x ≡ g i
+    → ((u : ℕ) → u < part k ps .many → u ≢ i → part k ps .number u ≡ g u) → setNum (part k ps .width) (bytesOf ps) at x ≡ bytesOf (put k g ps)
+unfolding bytesOf
+set-part k [] g i at x l e same other = absurd (omega arith)
+set-part zero (p ∷ ps) g i at x l e same other =
+    let w : ℕ = p .width in
+    let here : at ≡ w * i = omega arith in
+    ap (λ (m : ℕ). setNum w (bytesOf (p ∷ ps)) m x) here
+    ∙ setNum-left w (chunks p) (bytesOf ps) (w * i) x (omega (arith, chunks-length p, mul-suc w i, mul-le-mul-left w l))
+    ∙ ap (λ (s : List ℕ). s ++ bytesOf ps) (set-each w (p .number) g (p .many) i x l same other)
+set-part (suc k) (p ∷ ps) g i at x l e same other =
+    let w : ℕ = part k ps .width in
+    let from : ℕ = offset k ps + w * i in
+    let there : at ≡ span p + from = omega arith in
+    ap (λ (m : ℕ). setNum w (bytesOf (p ∷ ps)) m x) there
+    ∙ setNum-behind w (chunks p) (bytesOf ps) (span p) from x (chunks-length p)
+    ∙ ap (λ (s : List ℕ). chunks p ++ s) (set-part k ps g i from x l refl same other)
+
+-- ---- the byte of a row
 
 -- the byte of a row is known by the eight places that it holds
 pub rowByte-ext : (p q : ℕ → Bool) (k : ℕ) → ((b : ℕ) → b < 8 → p (8 * k + b) ≡ q (8 * k + b)) → rowByte p k ≡ rowByte q k
 unfolding rowByte
 rowByte-ext p q k h = sum-eq _ _ 8 (λ b l. ap (λ (t : Bool). 2 ^ b * bit t) (h b l))
-
--- a place that is changed leaves the bytes that do not hold it as they were
-pub rowByte-other : (p : ℕ → Bool) (w : ℕ) (b : Bool) (k : ℕ) → k ≢ w / 8 → rowByte p k ≡ rowByte (upd p w b) k
-rowByte-other p w b k d = rowByte-ext p (upd p w b) k (λ i l. sym (upd-other p w b (8 * k + i) (λ e. d (omega arith))))
 
 -- a byte with one bit put in, or taken out
 or-same : (x j : ℕ) → j < 8 → bitOf (bitOr x (2 ^ j)) j ≡ true

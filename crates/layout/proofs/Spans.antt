@@ -1,17 +1,22 @@
 -- Stretches of the rack's bytes that are one byte throughout, as facts of the fields in them, and the rows of all vertices as one row of
 -- bits. Assumes nothing.
-use mathlib.Core.Path.{_≡_, sym, ap, ap₂, _∙_, subst}
+use mathlib.Core.Path.{_≡_, refl, sym, ap, ap₂, _∙_, subst}
+use mathlib.Core.Logic.{inl, inr}
 use mathlib.Core.Bool.{Bool}
 use mathlib.Core.List.{List}
 use Prim.Native.Nat.{ℕ, zero, suc, _+_, _-_, _*_, _/_, _%_, _≤_, _<_}
+use native.Mathlib.Nat.{mul-comm, mul-suc, mul-le-mul-left, add-assoc, div-lt-iff-lt-mul, le-div-iff-mul-le, mod-lt, div-add-mod}
 use native.Mathlib.Omega.{arith}
 use lib.Dec.{T, ltb}
 use lib.ListN.{length, getD, take, drop, length-take, length-drop}
 use lib.Seq.{getD-take, getD-drop}
 use Rattle.model.specs.Counting.{sum, count}
-use Rattle.model.specs.Bytes.{noMate, bitOf, twoAt, rankAt, mateAt, phiAt, ownsAt}
-use mathlib.Core.Logic.{inl, inr}
+use Rattle.model.specs.Shape.{Shape, Good, ranksFrom, matesFrom, phisFrom, rowsFrom, rackLength}
+use Rattle.model.specs.Bytes.{noMate, rankAt, mateAt, phiAt, ownsAt}
+use Rattle.model.specs.Parts.{numAt, num, bitOf}
+use Rattle.model.specs.Valid.{IsBytes}
 use Rattle.model.proofs.Tests.{eq?}
+use Rattle.model.proofs.Parts.{num-back, num-is, rows-inside}
 use Rattle.model.proofs.Prefix.{count-zero, count-add, count-ext}
 use Rattle.model.proofs.Facts.{Says}
 use Rattle.bitset.specs.Row.{member, size}
@@ -19,125 +24,167 @@ use Rattle.bitset.specs.Words.{Rest}
 use Rattle.bitset.proofs.Digits.{digit, digit-lt, digit-bitOf, bitOf-digit, digits-ext}
 use Rattle.bitset.proofs.Words.{digit-zero}
 use Rattle.bitset.proofs.Laws.{member-part}
-use Rattle.layout.specs.Setters.{Sized}
+use Rattle.layout.specs.Setters.{Sized, rowPlace}
 use Rattle.layout.specs.Rows.{degreeAt}
 use Rattle.layout.proofs.Said.{says-by}
 use Rattle.layout.proofs.Parts.{owns-place}
 
--- the bytes of a part, as those of the whole
-pub part-says : (bs : List ℕ) (a e z : ℕ) {b : Bool} → a ≤ e → e ≤ length bs
-    → Says b ((k : ℕ) → k < length (take (e - a) (drop a bs)) → getD (take (e - a) (drop a bs)) k 0 ≡ z)
-    → Says b ((k : ℕ) → a ≤ k → k < e → getD bs k 0 ≡ z)
-part-says bs a e z h l =
+-- ---- one byte throughout
+
+-- every byte from a to e, as the code cuts them out, is z
+abbrev pub AllFrom : List ℕ → ℕ → ℕ → ℕ → Type 0
+AllFrom bs a e z = (k : ℕ) → k < length (take (e - a) (drop a bs)) → getD (take (e - a) (drop a bs)) k 0 ≡ z
+
+-- they are bytes p to q of a part that begins at `from`
+pub cut-says : (bs : List ℕ) (from p q a e z : ℕ) {b : Bool} → p ≤ q → a ≡ from + p → e ≡ from + q → e ≤ length bs
+    → Says b (AllFrom bs a e z) → Says b ((i : ℕ) → i < q → p ≤ i → getD bs (from + i) 0 ≡ z)
+cut-says bs from p q a e z up begins ends l =
     let long : length (take (e - a) (drop a bs)) ≡ e - a = simp (length-take, length-drop) (omega arith) in
-    let at : (k : ℕ) → k < e - a → getD (take (e - a) (drop a bs)) k 0 ≡ getD bs (a + k) 0 =
-    λ k b. getD-take (e - a) (drop a bs) k 0 b ∙ getD-drop a bs k 0 in
+    let same : (k : ℕ) → k < e - a → getD (take (e - a) (drop a bs)) k 0 ≡ getD bs (from + (p + k)) 0 =
+    λ k h. getD-take (e - a) (drop a bs) k 0 h ∙ getD-drop a bs k 0 ∙ ap (λ (x : ℕ). getD bs x 0) {y = from + (p + k)} (omega arith) in
     says-by
-    (λ f k p q.
-    let i : a + (k - a) ≡ k = omega arith in
-    ap (λ (n : ℕ). getD bs n 0) (sym i) ∙ sym (at (k - a) (omega arith)) ∙ f (k - a) (omega (arith, long)))
-    (λ f k p. let q : k < e - a = omega (arith, long) in at k q ∙ f (a + k) (omega arith) (omega arith))
+    (λ f i h g.
+    let there : p + (i - p) ≡ i = omega arith in
+    ap (λ (x : ℕ). getD bs (from + x) 0) (sym there) ∙ sym (same (i - p) (omega arith)) ∙ f (i - p) (omega (arith, long)))
+    (λ f k h. same k (omega (arith, long)) ∙ f (p + k) (omega (arith, long)) (omega arith))
 
--- Each field from vertex n on.
-module _ (bs : List ℕ) (n : ℕ) (b : Bool) where
-  pub span-ranks : Says b ((k : ℕ) → 8 + n ≤ k → k < 264 → getD bs k 0 ≡ 0) → Says b ((v : ℕ) → v < 256 → n ≤ v → rankAt bs v ≡ 0)
+-- rows of k entries as one list, row after row: those from row n on
+table-says : {b : Bool} {P : ℕ → Type 0} (k n m : ℕ) → 1 ≤ k → Says b ((i : ℕ) → i < k * m → k * n ≤ i → P i)
+    → Says b ((v : ℕ) → v < m → n ≤ v → (j : ℕ) → j < k → P (k * v + j))
+table-says {P = P} k n m some =
+    says-by (λ f v h l j t. f (k * v + j) (omega (arith, rows-inside m k v j h t, mul-comm m k)) (omega (arith, mul-le-mul-left k l)))
+    (λ f i h l.
+    let below : i / k < m = div-lt-iff-lt-mul {k = k} {x = i} {y = m} some .1 (omega (arith, mul-comm m k)) in
+    let above : n ≤ i / k = le-div-iff-mul-le {k = k} {x = n} {y = i} some .1 (omega (arith, mul-comm n k)) in
+    subst P (div-add-mod i k) (f (i / k) below above (i % k) (mod-lt i {m = k} some)))
+
+-- x is the number of w bytes z
+Alike : ℕ → ℕ → ℕ → Type 0
+Alike w x z = (i : ℕ) → i < w → getD (num w x) i 0 ≡ z
+
+alike-zero : (w : ℕ) → Alike w 0 0
+unfolding Alike num
+alike-zero zero i l = absurd (omega arith)
+alike-zero (suc zero) zero l = refl
+alike-zero (suc zero) (suc i) l = absurd (omega arith)
+alike-zero (suc (suc w)) zero l = refl
+alike-zero (suc (suc w)) (suc i) l = alike-zero (suc w) i (omega arith)
+
+alike-free : Alike 2 noMate 255
+unfolding Alike num
+alike-free zero l = refl
+alike-free (suc zero) l = refl
+alike-free (suc (suc i)) l = absurd (omega arith)
+
+-- numbers n to m of w bytes each are x throughout exactly if their bytes are z throughout
+span-says : (bs : List ℕ) → IsBytes bs → (from w n m a e x z : ℕ) {b : Bool} → 1 ≤ w → Alike w x z → n ≤ m
+    → a ≡ from + w * n → e ≡ from + w * m → e ≤ length bs
+    → Says b (AllFrom bs a e z) → Says b ((i : ℕ) → i < m → n ≤ i → numAt w bs (from + w * i) ≡ x)
+unfolding Alike
+span-says bs bytes from w n m a e x z some alike up begins ends l s =
+    says-by
+    (λ f i h g. num-back w x some bs (from + w * i) (λ j t. ap (λ (k : ℕ). getD bs k 0) (add-assoc from (w * i) j) ∙ f i h g j t ∙ sym (alike j t)))
+    (λ f i h g j t. ap (λ (k : ℕ). getD bs k 0) (sym (add-assoc from (w * i) j)) ∙ num-is w bs bytes (from + w * i) x (f i h g) j t ∙ alike j t)
+    (table-says {P = λ i. getD bs (from + i) 0 ≡ z} w n m some
+    (cut-says bs from (w * n) (w * m) a e z (mul-le-mul-left w up) begins ends l s))
+
+-- a byte is zero exactly if no bit of it is set
+zero-bits : (x : ℕ) → x ≡ 0 → (j : ℕ) → T (bitOf x j) → ⊥
+zero-bits x e j t = omega (arith, bitOf-digit x j t, ap (λ (y : ℕ). digit y j) e ∙ digit-zero j)
+
+bits-zero : (x : ℕ) → x < 256 → ((j : ℕ) → j < 8 → T (bitOf x j) → ⊥) → x ≡ 0
+bits-zero x h f = digits-ext 8 x 0 h (omega arith) (λ j l. elim (eq? (digit x j) 1) [
+  | inl e ↦ absurd (f j l (digit-bitOf x j e))
+  | inr e ↦ omega (arith, digit-lt x j, digit-zero j)
+])
+
+-- Each field from vertex n on. Where the counts begin is given, since the code leaves out the factor 1 of a count of one byte.
+module _ {S : Shape} (good : Good S) (bs : List ℕ) (sized : Sized S bs) (n : ℕ) (up : n ≤ S .most) {b : Bool} where
+  pub span-ranks : Says b (AllFrom bs (ranksFrom + n) (matesFrom S) 0) → Says b ((v : ℕ) → v < S .most → n ≤ v → rankAt bs v ≡ 0)
   unfolding rankAt
-  span-ranks =
-      says-by (λ f v h l. f (8 + v) (omega arith) (omega arith))
-      (λ f k p q.
-      let i : 8 + (k - 8) ≡ k = omega arith in
-      ap (λ (m : ℕ). getD bs m 0) (sym i) ∙ f (k - 8) (omega arith) (omega arith))
+  span-ranks = cut-says bs ranksFrom n (S .most) (ranksFrom + n) (matesFrom S) 0 up refl refl (omega arith)
 
-  pub span-mates : ((k : ℕ) → getD bs k 0 < 256) → Says b ((k : ℕ) → 264 + 2 * n ≤ k → k < 776 → getD bs k 0 ≡ 255)
-      → Says b ((v : ℕ) → v < 256 → n ≤ v → mateAt bs v ≡ noMate)
-  unfolding mateAt twoAt
+  pub span-mates : IsBytes bs → Says b (AllFrom bs (matesFrom S + 2 * n) (phisFrom S) 255)
+      → Says b ((v : ℕ) → v < S .most → n ≤ v → mateAt S bs v ≡ noMate)
+  unfolding mateAt
   span-mates bytes =
-      says-by (λ f v h l. omega (arith, f (264 + 2 * v) (omega arith) (omega arith), f (264 + 2 * v + 1) (omega arith) (omega arith)))
-      (λ f k p q.
-      let v = (k - 264) / 2 in
-      let e = f v (omega arith) (omega arith) in
-      let lo : getD bs (264 + 2 * v) 0 ≡ 255 = omega (arith, e, bytes (264 + 2 * v), bytes (264 + 2 * v + 1)) in
-      let hi : getD bs (264 + 2 * v + 1) 0 ≡ 255 = omega (arith, e, bytes (264 + 2 * v), bytes (264 + 2 * v + 1)) in
-      elim (eq? k (264 + 2 * v)) [
-        | inl i ↦ ap (λ (m : ℕ). getD bs m 0) i ∙ lo
-        | inr d ↦ let i : k ≡ 264 + 2 * v + 1 = omega arith in ap (λ (m : ℕ). getD bs m 0) i ∙ hi
-      ])
+      span-says bs bytes (matesFrom S) 2 n (S .most) (matesFrom S + 2 * n) (phisFrom S) noMate 255 (omega arith) alike-free up refl refl (omega arith)
 
-  pub span-counts : Says b ((k : ℕ) → 776 + 4 * n ≤ k → k < 1800 → getD bs k 0 ≡ 0)
-      → Says b ((v : ℕ) → v < 256 → n ≤ v → (j : ℕ) → j < 4 → phiAt bs v j ≡ 0)
+  pub span-counts : IsBytes bs → (at : ℕ) → at ≡ phisFrom S + S .width * (S .levels * n) → Says b (AllFrom bs at (rowsFrom S) 0)
+      → Says b ((v : ℕ) → v < S .most → n ≤ v → (j : ℕ) → j < S .levels → phiAt S bs v j ≡ 0)
   unfolding phiAt
-  span-counts =
-      says-by (λ f v h l j i. f (776 + (4 * v + j)) (omega arith) (omega arith))
-      (λ f k p q.
-      let i : 776 + (4 * ((k - 776) / 4) + (k - 776) % 4) ≡ k = omega arith in
-      ap (λ (m : ℕ). getD bs m 0) (sym i) ∙ f ((k - 776) / 4) (omega arith) (omega arith) ((k - 776) % 4) (omega arith))
+  span-counts bytes at e s =
+      table-says {P = λ i. numAt (S .width) bs (phisFrom S + S .width * i) ≡ 0} (S .levels) n (S .most) (good .high)
+      (span-says bs bytes (phisFrom S) (S .width) (S .levels * n) (S .levels * S .most) at (rowsFrom S) 0 0
+      (good .wide) (alike-zero (S .width)) (mul-le-mul-left (S .levels) up) e
+      (ap (λ (x : ℕ). phisFrom S + S .width * x) (mul-comm (S .most) (S .levels))) (omega arith) s)
 
-  pub span-rows : ((k : ℕ) → getD bs k 0 < 256) → Says b ((k : ℕ) → 1800 + 32 * n ≤ k → k < 9992 → getD bs k 0 ≡ 0)
-      → Says b ((v : ℕ) → v < 256 → n ≤ v → (w : ℕ) → w < 256 → T (ownsAt bs v w) → ⊥)
+  pub span-rows : IsBytes bs → Says b (AllFrom bs (rowsFrom S + S .row * n) (rackLength S) 0)
+      → Says b ((v : ℕ) → v < S .most → n ≤ v → (w : ℕ) → w < S .most → T (ownsAt S bs v w) → ⊥)
   unfolding ownsAt
-  span-rows bytes =
-      says-by
-      (λ f v h l w i t.
-      let z = f (1800 + (32 * v + w / 8)) (omega arith) (omega arith) in
-      let d = bitOf-digit (getD bs (1800 + (32 * v + w / 8)) 0) (w % 8) t in
-      omega (arith, d, ap (λ (x : ℕ). digit x (w % 8)) z ∙ digit-zero (w % 8)))
-      (λ f k p q. digits-ext 8 (getD bs k 0) 0 (bytes k) (omega arith)
-      (λ j h.
-      let v = (k - 1800) / 32 in
-      let w = 8 * ((k - 1800) % 32) + j in
-      let at : k ≡ 1800 + (32 * v + w / 8) = omega arith in
-      let bit : j ≡ w % 8 = omega arith in
-      elim (eq? (digit (getD bs k 0) j) 1) [
-        | inl e ↦ absurd (f v (omega arith) (omega arith) w (omega arith)
-            (subst T (ap₂ (λ (x y : ℕ). bitOf (getD bs x 0) y) at bit) (digit-bitOf (getD bs k 0) j e)))
-        | inr e ↦ omega (arith, digit-lt (getD bs k 0) j, digit-zero j)
-      ]))
+  span-rows bytes s =
+      says-by (λ f v h l w t. zero-bits (getD bs (rowsFrom S + (S .row * v + w / 8)) 0) (f v h l (w / 8) (omega (arith, good .rows))) (w % 8))
+      (λ f v h l k t. bits-zero (getD bs (rowsFrom S + (S .row * v + k)) 0) (bytes (rowsFrom S + (S .row * v + k))) (λ j g o.
+      let byte : k ≡ (8 * k + j) / 8 = omega arith in
+      let bit : j ≡ (8 * k + j) % 8 = omega arith in
+      f v h l (8 * k + j) (omega (arith, good .rows)) (subst T (ap₂ (λ (x y : ℕ). bitOf (getD bs (rowsFrom S + (S .row * v + x)) 0) y) byte bit) o)))
+      (table-says {P = λ i. getD bs (rowsFrom S + i) 0 ≡ 0} (S .row) n (S .most) (good .some)
+      (cut-says bs (rowsFrom S) (S .row * n) (S .row * S .most) (rowsFrom S + S .row * n) (rackLength S) 0 (mul-le-mul-left (S .row) up) refl
+      (omega (arith, mul-comm (S .most) (S .row))) (omega arith) s))
+
+-- ---- the ranks and the rows, counted
 
 -- The bytes that are not 0 of a part within the ranks: the vertices from `from` on that have a rank above 0.
-pub nonzero-ranks : (bs : List ℕ) (from m : ℕ) → 8 + from + m ≤ length bs
-    → let part = take m (drop (8 + from) bs) in
+pub nonzero-ranks : (bs : List ℕ) (from m : ℕ) → ranksFrom + from + m ≤ length bs
+    → let part = take m (drop (ranksFrom + from) bs) in
     count (λ k. ltb 0 (getD part k 0)) (length part) ≡ count (λ k. ltb 0 (rankAt bs (from + k))) m
 unfolding rankAt
 nonzero-ranks bs from m h =
-    let part : List ℕ = take m (drop (8 + from) bs) in
+    let part : List ℕ = take m (drop (ranksFrom + from) bs) in
     let long : length part ≡ m = simp (length-take, length-drop) (omega arith) in
     ap (count (λ k. ltb 0 (getD part k 0))) long
-    ∙ count-ext (λ k. ltb 0 (getD part k 0)) (λ k. ltb 0 (getD bs (8 + (from + k)) 0)) m
+    ∙ count-ext (λ k. ltb 0 (getD part k 0)) (λ k. ltb 0 (getD bs (ranksFrom + (from + k)) 0)) m
     (λ k l.
-    let i : 8 + from + k ≡ 8 + (from + k) = omega arith in
-    ap (ltb 0) (getD-take m (drop (8 + from) bs) k 0 l ∙ getD-drop (8 + from) bs k 0 ∙ ap (λ (x : ℕ). getD bs x 0) i))
+    let i : ranksFrom + from + k ≡ ranksFrom + (from + k) = omega arith in
+    ap (ltb 0) (getD-take m (drop (ranksFrom + from) bs) k 0 l ∙ getD-drop (ranksFrom + from) bs k 0 ∙ ap (λ (x : ℕ). getD bs x 0) i))
 
 -- A word of a row, as edges.
-pub word-owns : (bs : List ℕ) (v k x : ℕ) → Rest (λ j. member bs (8 * (1800 + 32 * v + 8 * k) + j)) 0 x → Rest (λ j. ownsAt bs v (64 * k + j)) 0 x
-word-owns bs v k x r = record {
+pub word-owns : (S : Shape) (bs : List ℕ) (v k x : ℕ) → Rest (λ j. member bs (8 * (rowsFrom S + S .row * v + 8 * k) + j)) 0 x
+    → Rest (λ j. ownsAt S bs v (64 * k + j)) 0 x
+word-owns S bs v k x r = record {
   fits = r .fits;
   none = r .none;
   same = λ j a b.
-      let e : 8 * (1800 + 32 * v + 8 * k) + j ≡ 14400 + (256 * v + (64 * k + j)) = omega arith in
-      r .same j a b ∙ ap (member bs) e ∙ owns-place bs v (64 * k + j);
+      let e : 8 * (rowsFrom S + S .row * v + 8 * k) + j ≡ rowPlace S v (64 * k + j) = omega arith in
+      r .same j a b ∙ ap (member bs) e ∙ owns-place S bs v (64 * k + j);
 }
 
 -- The rows of the vertices below n, as one row.
-count-rows : (bs : List ℕ) (n : ℕ) → count (λ w. member bs (14400 + w)) (256 * n) ≡ sum (degreeAt bs) n
-unfolding sum degreeAt
-count-rows bs zero = count-zero (λ w. member bs (14400 + w))
-count-rows bs (suc n) =
-    let p : ℕ → Bool = λ w. member bs (14400 + w) in
-    let e : 256 * suc n ≡ 256 * n + 256 = omega arith in
-    omega (
-      arith,
-      ap (count p) e,
-      count-add p (256 * n) 256,
-      count-ext (λ j. p (256 * n + j)) (ownsAt bs n) 256 (λ j h. owns-place bs n j),
-      count-rows bs n,
-    )
+module _ {S : Shape} (good : Good S) (bs : List ℕ) where
+  count-rows : (n : ℕ) → count (λ w. member bs (8 * rowsFrom S + w)) (8 * (S .row * n)) ≡ sum (degreeAt S bs) n
+  unfolding sum degreeAt
+  count-rows zero = ap (count (λ w. member bs (8 * rowsFrom S + w))) (omega arith) ∙ count-zero (λ w. member bs (8 * rowsFrom S + w))
+  count-rows (suc n) =
+      let p : ℕ → Bool = λ w. member bs (8 * rowsFrom S + w) in
+      let before : ℕ = 8 * (S .row * n) in
+      let e : 8 * (S .row * suc n) ≡ before + S .most = omega (arith, mul-suc (S .row) n, good .rows) in
+      let there : (j : ℕ) → 8 * rowsFrom S + (before + j) ≡ rowPlace S n j = λ j. omega arith in
+      omega (
+        arith,
+        ap (count p) e,
+        count-add p before (S .most),
+        count-ext (λ j. p (before + j)) (ownsAt S bs n) (S .most) (λ j h. ap (member bs) (there j) ∙ owns-place S bs n j),
+        count-rows n,
+      )
 
-pub size-rows : (bs : List ℕ) (n : ℕ) → Sized bs → n ≤ 256 → size (take (1800 + 32 * n - 1800) (drop 1800 bs)) ≡ sum (degreeAt bs) n
-unfolding size
-size-rows bs n sized h =
-    let m = 1800 + 32 * n - 1800 in
-    let long : length (take m (drop 1800 bs)) ≡ m = simp (length-take, length-drop) (omega arith) in
-    let e : 8 * m ≡ 256 * n = omega arith in
-    ap (λ (x : ℕ). count (member (take m (drop 1800 bs))) (8 * x)) long ∙ ap (count (member (take m (drop 1800 bs)))) e
-    ∙ count-ext (member (take m (drop 1800 bs))) (λ w. member bs (14400 + w)) (256 * n) (λ w b. member-part bs 1800 m w (omega arith))
-    ∙ count-rows bs n
+  pub size-rows : (n : ℕ) → Sized S bs → n ≤ S .most
+      → size (take (rowsFrom S + S .row * n - rowsFrom S) (drop (rowsFrom S) bs)) ≡ sum (degreeAt S bs) n
+  unfolding size
+  size-rows n sized h =
+      let m : ℕ = rowsFrom S + S .row * n - rowsFrom S in
+      let part : List ℕ = take m (drop (rowsFrom S) bs) in
+      let long : length part ≡ m = simp (length-take, length-drop) (omega (arith, mul-le-mul-left (S .row) h, mul-comm (S .row) (S .most))) in
+      let e : 8 * length part ≡ 8 * (S .row * n) = omega (arith, long) in
+      ap (count (member part)) e
+      ∙ count-ext (member part) (λ w. member bs (8 * rowsFrom S + w)) (8 * (S .row * n)) (λ w b. member-part bs (rowsFrom S) m w (omega arith))
+      ∙ count-rows n

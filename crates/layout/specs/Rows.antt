@@ -4,21 +4,22 @@ use mathlib.Core.List.{List}
 use Prim.Native.Nat.{ℕ, _≤_, _<_}
 use lib.Dec.{T}
 use Rattle.model.specs.Counting.{count}
-use Rattle.model.specs.Bytes.{most, ownsAt}
+use Rattle.model.specs.Shape.{Shape}
+use Rattle.model.specs.Bytes.{ownsAt}
 
 -- "How many links a board owns is how many bits of its row are set."
-unfoldable pub degreeAt : List ℕ → ℕ → ℕ
-degreeAt bs v = count (ownsAt bs v) most
+unfoldable pub degreeAt : Shape → List ℕ → ℕ → ℕ
+degreeAt S bs v = count (ownsAt S bs v) (S .most)
 
 -- r is the k-th vertex, from 0, to which v owns an edge
-pub record NthOwned (bs : List ℕ) (v k r : ℕ) : Type 0 where
-  pub inside : r < most
-  pub is : T (ownsAt bs v r)
-  pub before : count (ownsAt bs v) r ≡ k
+pub record NthOwned (S : Shape) (bs : List ℕ) (v k r : ℕ) : Type 0 where
+  pub inside : r < S .most
+  pub is : T (ownsAt S bs v r)
+  pub before : count (ownsAt S bs v) r ≡ k
 
 -- r is the first vertex from `from` on to which v owns an edge, or `most` where there is none
-pub record NextOwned (bs : List ℕ) (v from r : ℕ) : Type 0 where
+pub record NextOwned (S : Shape) (bs : List ℕ) (v from r : ℕ) : Type 0 where
   pub after : from ≤ r
-  pub within : r ≤ most
-  pub none : (w : ℕ) → from ≤ w → w < r → T (ownsAt bs v w) → ⊥
-  pub is : r < most → T (ownsAt bs v r)
+  pub within : r ≤ S .most
+  pub none : (w : ℕ) → from ≤ w → w < r → T (ownsAt S bs v w) → ⊥
+  pub is : r < S .most → T (ownsAt S bs v r)

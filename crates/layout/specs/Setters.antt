@@ -1,47 +1,55 @@
 -- Bytes with one field of the rack set. Callers use the laws of proofs/Images.antt, and need no offset. Assumes nothing.
 use mathlib.Core.Path.{_≡_}
 use mathlib.Core.List.{List, _++_}
-use Prim.Native.Nat.{ℕ, _+_, _*_, _/_, _%_}
+use Prim.Native.Nat.{ℕ, zero, suc, _+_, _-_, _*_, _/_, _%_, _≤_}
 use lib.ListN.{length, set, replicate}
-use Rattle.model.specs.Bytes.{rackLength}
+use Rattle.model.specs.Shape.{Shape, ranksFrom, matesFrom, phisFrom, rowsFrom, rackLength}
+use Rattle.model.specs.Bytes.{half}
 use Rattle.bitset.specs.Row.{inserted, removed}
 use Rattle.bitset.specs.Words.{stored}
 
 -- the bytes are as many as a rack has
-abbrev pub Sized : List ℕ → Type 0
-Sized bs = length bs ≡ rackLength
+abbrev pub Sized : Shape → List ℕ → Type 0
+Sized S bs = length bs ≡ rackLength S
 
--- two bytes at k, low byte first
-unfoldable pub setTwo : List ℕ → ℕ → ℕ → List ℕ
-setTwo bs k x = set (set bs k (x % 256)) (k + 1) (x / 256)
+-- r is where number i of a part stands that begins at `from` and has numbers of w bytes; it ends within the rack
+pub record NumberAt (S : Shape) (from w i r : ℕ) : Type 0 where
+  pub at : r ≡ from + w * i
+  pub within : r + w ≤ rackLength S
+
+-- the number in the w bytes at k is x, low byte first
+unfoldable pub setNum : ℕ → List ℕ → ℕ → ℕ → List ℕ
+setNum zero bs k x = bs
+setNum (suc zero) bs k x = set bs k x
+setNum (suc (suc w)) bs k x = setNum (suc w) (set bs k (x % 256)) (k + 1) (x / 256)
 
 -- the fields, each by its place: the number of edges, and the rank, the mate and the count at j of vertex v
-unfoldable pub setEdges : List ℕ → ℕ → List ℕ
-unfolding setTwo
-setEdges bs x = setTwo bs 2 x
+unfoldable pub setEdges : Shape → List ℕ → ℕ → List ℕ
+setEdges S bs x = setNum (2 - S .spare) (setNum 2 bs 2 (x % half)) (6 + S .spare) (x / half)
 
 unfoldable pub setRank : List ℕ → ℕ → ℕ → List ℕ
-setRank bs v x = set bs (8 + v) x
+setRank bs v x = set bs (ranksFrom + v) x
 
-unfoldable pub setMate : List ℕ → ℕ → ℕ → List ℕ
-unfolding setTwo
-setMate bs v x = setTwo bs (264 + 2 * v) x
+unfoldable pub setMate : Shape → List ℕ → ℕ → ℕ → List ℕ
+setMate S bs v x = setNum 2 bs (matesFrom S + 2 * v) x
 
-unfoldable pub setPhi : List ℕ → ℕ → ℕ → ℕ → List ℕ
-setPhi bs v j x = set bs (776 + (4 * v + j)) x
+unfoldable pub setPhi : Shape → List ℕ → ℕ → ℕ → ℕ → List ℕ
+setPhi S bs v j x = setNum (S .width) bs (phisFrom S + S .width * (S .levels * v + j)) x
 
--- v owns the edge v-w, or no longer does. Row v is the 32 bytes from 1,800 + 32 v: as one long row, its place w is place
--- 8 * (1,800 + 32 v) + w of the whole buffer.
-abbrev pub own : List ℕ → ℕ → ℕ → List ℕ
-own bs v w = inserted bs (14400 + (256 * v + w))
+-- v owns the edge v-w, or no longer does. As one long row of bits, place w of row v is a place of the whole buffer.
+abbrev pub rowPlace : Shape → ℕ → ℕ → ℕ
+rowPlace S v w = 8 * (rowsFrom S + S .row * v) + w
 
-abbrev pub disown : List ℕ → ℕ → ℕ → List ℕ
-disown bs v w = removed bs (14400 + (256 * v + w))
+abbrev pub own : Shape → List ℕ → ℕ → ℕ → List ℕ
+own S bs v w = inserted bs (rowPlace S v w)
+
+abbrev pub disown : Shape → List ℕ → ℕ → ℕ → List ℕ
+disown S bs v w = removed bs (rowPlace S v w)
 
 -- the 64 places of row v from 64 k on become the bits of x: eight bytes
-abbrev pub setWord : List ℕ → ℕ → ℕ → ℕ → List ℕ
-setWord bs v k x = stored bs (1800 + 32 * v + 8 * k) x
+abbrev pub setWord : Shape → List ℕ → ℕ → ℕ → ℕ → List ℕ
+setWord S bs v k x = stored bs (rowsFrom S + S .row * v + 8 * k) x
 
 -- every byte zero, but for the mates' entries, which name none
-unfoldable pub blanked : List ℕ
-blanked = replicate 264 0 ++ (replicate 512 255 ++ replicate 9216 0)
+unfoldable pub blanked : Shape → List ℕ
+blanked S = replicate (matesFrom S) 0 ++ (replicate (2 * S .most) 255 ++ replicate (rackLength S - phisFrom S) 0)

@@ -7,7 +7,8 @@ use mathlib.Core.List.{List, [], _∷_}
 use Prim.Native.Nat.{ℕ, _≤_}
 use native.Mathlib.Omega.{arith}
 use lib.ListN.{length, getD}
-use Rattle.model.specs.State.{base, empty, edges}
+use Rattle.model.specs.Shape.{low}
+use Rattle.model.specs.State.{base, lowKind, empty, edges}
 use Rattle.model.specs.Bytes.{write}
 use Rattle.model.specs.Sound.{sizeGood}
 use Rattle.model.specs.Calls.{sized}
@@ -65,27 +66,27 @@ example-record = refl
 
 -- So a run of the text, in any rack buffer and any record space of their lengths, puts the paper's record at the front of the space,
 -- keeps the bytes past it, and answers 0 and the record's length.
-pub example-ran : (rack space : List ℕ) → sized rack ≡ true → spaceLength ≤ length space
-    → Ran base rack exampleText space (recorded exampleRecord) (write (after base (empty 4) (example .changes))) (over 0 exampleRecord space)
+pub example-ran : (rack space : List ℕ) → sized low rack ≡ true → spaceLength ≤ length space
+    → Ran base rack exampleText space (recorded exampleRecord) (write (after base (empty lowKind 4) (example .changes))) (over 0 exampleRecord space)
 unfolding example
 example-ran rack space p q =
-    subst (λ (x : List ℕ). Ran base rack exampleText space (recorded x) (write (after base (empty 4) (example .changes))) (over 0 x space))
+    subst (λ (x : List ℕ). Ran base rack exampleText space (recorded x) (write (after base (empty lowKind 4) (example .changes))) (over 0 x space))
     example-record (ran {t = example} p text-short q example-holds four-good)
   where
     text-short : length exampleText ≤ longest
     text-short = unfold exampleText in omega arith
 
-    four-good : sizeGood 4 ≡ true
+    four-good : sizeGood low 4 ≡ true
     four-good = unfold sizeGood in refl
 
 -- Another rack, whose mean has a rest: three boards in a row have two links and one pair, and four is once three and one over.
-pub rest-line : endLine (after base (empty 3) (adds 0 1 zeros ∷ adds 1 2 zeros ∷ [])) ≡ bytes "(end (pairs 1) (mean 1 1))\n"
+pub rest-line : endLine (after base (empty lowKind 3) (adds 0 1 zeros ∷ adds 1 2 zeros ∷ [])) ≡ bytes "(end (pairs 1) (mean 1 1))\n"
 unfolding zeros edges mean endText decimal decimalIn computed
 rest-line = refl
 
 -- P12, as W-201 changes it: the empty text is taken, in any rack buffer and any record space of their lengths. The rack keeps its bytes, and sixteen
 -- bytes of the space are written.
-pub empty-text : (rack space : List ℕ) → sized rack ≡ true → spaceLength ≤ length space
+pub empty-text : (rack space : List ℕ) → sized low rack ≡ true → spaceLength ≤ length space
     → Ran base rack [] space (record { number = 0; line = 0; length = 16 }) rack (over 0 (bytes "(end (pairs 0))\n") space)
 empty-text rack space p q = blank p refl q
 

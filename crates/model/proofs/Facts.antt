@@ -8,6 +8,7 @@ use native.Mathlib.Omega.{arith}
 use lib.Dec.{T, leb, ltb, eqb, leb→le, le→leb, eqb→eq, not-T, T-not}
 use lib.ListN.{getD}
 use Rattle.model.specs.Counting.{every}
+use Rattle.model.specs.Shape.{Shape}
 use Rattle.model.specs.State.{Rules, edge, phi, edges}
 use Rattle.model.specs.Bytes.{noMate, sizeAt, edgesAt, rankAt, mateAt, phiAt, ownsAt, read}
 use Rattle.model.specs.Sound.{spareZero, unused, pastUnused, pastUnnamed, sizeGood, ranksGood, noLoop, ownedOnce, edgesRight, phiRight, ownerHigh, mated, matesGood, freeLow, phiLow, sound}
@@ -55,125 +56,125 @@ pub every-says : {p : ℕ → Bool} {P : ℕ → Type 0} (n : ℕ) → ((v : ℕ
 every-says {p} n f = record { fact = λ h v l. f v .fact (every-all p n h v l); test = λ h. all-every p n (λ v l. f v .test (h v l)) }
 
 -- the entry of a vertex that is none
-pub record Unused (bs : List ℕ) (v : ℕ) : Type 0 where
+pub record Unused (S : Shape) (bs : List ℕ) (v : ℕ) : Type 0 where
   pub rank : rankAt bs v ≡ 0
-  pub mate : mateAt bs v ≡ noMate
-  pub phi : (j : ℕ) → j < 4 → phiAt bs v j ≡ 0
-  pub owns : (w : ℕ) → w < 256 → T (ownsAt bs v w) → ⊥
+  pub mate : mateAt S bs v ≡ noMate
+  pub phi : (j : ℕ) → j < S .levels → phiAt S bs v j ≡ 0
+  pub owns : (w : ℕ) → w < S .most → T (ownsAt S bs v w) → ⊥
 
 -- w is a right mate for v
-pub record Mated (bs : List ℕ) (v w : ℕ) : Type 0 where
-  pub back : mateAt bs w ≡ v
-  pub linked : T (edge (read bs) v w)
+pub record Mated (S : Shape) (bs : List ℕ) (v w : ℕ) : Type 0 where
+  pub back : mateAt S bs w ≡ v
+  pub linked : T (edge (read S bs) v w)
   pub level : rankAt bs w ≡ rankAt bs v
 
-pub sizeGood-says : (n : ℕ) → Says (sizeGood n) ((1 ≤ n) × (n ≤ 256))
+pub sizeGood-says : (S : Shape) (n : ℕ) → Says (sizeGood S n) ((1 ≤ n) × (n ≤ S .most))
 unfolding sizeGood
-sizeGood-says n = and-says (leb-says 1 n) (leb-says n 256)
+sizeGood-says S n = and-says (leb-says 1 n) (leb-says n (S .most))
 
-module _ (bs : List ℕ) where
-  pub unused-says : (v : ℕ) → Says (unused bs v) (Unused bs v)
+module _ (S : Shape) (bs : List ℕ) where
+  pub unused-says : (v : ℕ) → Says (unused S bs v) (Unused S bs v)
   unfolding unused
   unused-says v =
-      let e = and-says (eqb-says (rankAt bs v) 0) (and-says (eqb-says (mateAt bs v) noMate) (and-says
-      (every-says 4 (λ j. eqb-says (phiAt bs v j) 0)) (every-says 256 (λ w. not-says (self-says (ownsAt bs v w)))))) in
+      let e = and-says (eqb-says (rankAt bs v) 0) (and-says (eqb-says (mateAt S bs v) noMate) (and-says
+      (every-says (S .levels) (λ j. eqb-says (phiAt S bs v j) 0)) (every-says (S .most) (λ w. not-says (self-says (ownsAt S bs v w)))))) in
       record {
         fact = λ h. let u = e .fact h in record { rank = u .0; mate = u .1 .0; phi = u .1 .1 .0; owns = u .1 .1 .1 };
         test = λ u. e .test (u .rank, (u .mate, (u .phi, u .owns)));
       }
 
-  pub mated-says : (v w : ℕ) → Says (mated bs v w) (Mated bs v w)
+  pub mated-says : (v w : ℕ) → Says (mated S bs v w) (Mated S bs v w)
   unfolding mated
   mated-says v w =
-      let e = and-says (eqb-says (mateAt bs w) v) (and-says (self-says (edge (read bs) v w)) (eqb-says (rankAt bs w) (rankAt bs v))) in
+      let e = and-says (eqb-says (mateAt S bs w) v) (and-says (self-says (edge (read S bs) v w)) (eqb-says (rankAt bs w) (rankAt bs v))) in
       record {
         fact = λ h. let u = e .fact h in record { back = u .0; linked = u .1 .0; level = u .1 .1 };
         test = λ u. e .test (u .back, (u .linked, u .level));
       }
 
   -- a test in each line of document 01's list
-  pub spareZero-says : Says (spareZero bs) ((k : ℕ) → k < 4 → getD bs (4 + k) 0 ≡ 0)
+  pub spareZero-says : Says (spareZero S bs) ((k : ℕ) → k < 2 + S .spare → getD bs (4 + k) 0 ≡ 0)
   unfolding spareZero
-  spareZero-says = every-says 4 (λ k. eqb-says (getD bs (4 + k) 0) 0)
+  spareZero-says = every-says (2 + S .spare) (λ k. eqb-says (getD bs (4 + k) 0) 0)
 
-  pub pastUnused-says : Says (pastUnused bs) ((v : ℕ) → v < 256 → sizeAt bs ≤ v → Unused bs v)
+  pub pastUnused-says : Says (pastUnused S bs) ((v : ℕ) → v < S .most → sizeAt bs ≤ v → Unused S bs v)
   unfolding pastUnused
-  pastUnused-says = every-says 256 (λ v. past-says v (sizeAt bs) (unused-says v))
+  pastUnused-says = every-says (S .most) (λ v. past-says v (sizeAt bs) (unused-says v))
 
-  pub pastUnnamed-says : Says (pastUnnamed bs) ((v : ℕ) → v < 256 → (w : ℕ) → w < 256 → sizeAt bs ≤ w → T (ownsAt bs v w) → ⊥)
+  pub pastUnnamed-says : Says (pastUnnamed S bs) ((v : ℕ) → v < S .most → (w : ℕ) → w < S .most → sizeAt bs ≤ w → T (ownsAt S bs v w) → ⊥)
   unfolding pastUnnamed
-  pastUnnamed-says = every-says 256 (λ v. every-says 256 (λ w. past-says w (sizeAt bs) (not-says (self-says (ownsAt bs v w)))))
+  pastUnnamed-says = every-says (S .most) (λ v. every-says (S .most) (λ w. past-says w (sizeAt bs) (not-says (self-says (ownsAt S bs v w)))))
 
   pub ranksGood-says : (R : Rules) → Says (ranksGood R bs) ((v : ℕ) → v < sizeAt bs → rankAt bs v ≤ suc (R .top))
   unfolding ranksGood
   ranksGood-says R = every-says (sizeAt bs) (λ v. leb-says (rankAt bs v) (suc (R .top)))
 
-  pub noLoop-says : Says (noLoop bs) ((v : ℕ) → v < sizeAt bs → T (ownsAt bs v v) → ⊥)
+  pub noLoop-says : Says (noLoop S bs) ((v : ℕ) → v < sizeAt bs → T (ownsAt S bs v v) → ⊥)
   unfolding noLoop
-  noLoop-says = every-says (sizeAt bs) (λ v. not-says (self-says (ownsAt bs v v)))
+  noLoop-says = every-says (sizeAt bs) (λ v. not-says (self-says (ownsAt S bs v v)))
 
-  pub ownedOnce-says : Says (ownedOnce bs)
-      ((v : ℕ) → v < sizeAt bs → (w : ℕ) → w < sizeAt bs → (T (ownsAt bs v w) × T (ownsAt bs w v)) → ⊥)
+  pub ownedOnce-says : Says (ownedOnce S bs)
+      ((v : ℕ) → v < sizeAt bs → (w : ℕ) → w < sizeAt bs → (T (ownsAt S bs v w) × T (ownsAt S bs w v)) → ⊥)
   unfolding ownedOnce
   ownedOnce-says =
-      every-says (sizeAt bs) (λ v. every-says (sizeAt bs) (λ w. not-says (and-says (self-says (ownsAt bs v w)) (self-says (ownsAt bs w v)))))
+      every-says (sizeAt bs) (λ v. every-says (sizeAt bs) (λ w. not-says (and-says (self-says (ownsAt S bs v w)) (self-says (ownsAt S bs w v)))))
 
-  pub edgesRight-says : Says (edgesRight bs) (edgesAt bs ≡ edges (read bs))
+  pub edgesRight-says : Says (edgesRight S bs) (edgesAt S bs ≡ edges (read S bs))
   unfolding edgesRight
-  edgesRight-says = eqb-says (edgesAt bs) (edges (read bs))
+  edgesRight-says = eqb-says (edgesAt S bs) (edges (read S bs))
 
-  pub phiRight-says : Says (phiRight bs) ((v : ℕ) → v < sizeAt bs → (j : ℕ) → j < 4 → phiAt bs v j ≡ phi (read bs) v j)
+  pub phiRight-says : Says (phiRight S bs) ((v : ℕ) → v < sizeAt bs → (j : ℕ) → j < S .levels → phiAt S bs v j ≡ phi (read S bs) v j)
   unfolding phiRight
-  phiRight-says = every-says (sizeAt bs) (λ v. every-says 4 (λ j. eqb-says (phiAt bs v j) (phi (read bs) v j)))
+  phiRight-says = every-says (sizeAt bs) (λ v. every-says (S .levels) (λ j. eqb-says (phiAt S bs v j) (phi (read S bs) v j)))
 
-  pub ownerHigh-says : Says (ownerHigh bs)
-      ((v : ℕ) → v < sizeAt bs → (w : ℕ) → w < sizeAt bs → T (ownsAt bs v w) → rankAt bs w ≤ rankAt bs v)
+  pub ownerHigh-says : Says (ownerHigh S bs)
+      ((v : ℕ) → v < sizeAt bs → (w : ℕ) → w < sizeAt bs → T (ownsAt S bs v w) → rankAt bs w ≤ rankAt bs v)
   unfolding ownerHigh
   ownerHigh-says =
-      every-says (sizeAt bs) (λ v. every-says (sizeAt bs) (λ w. imp-says (self-says (ownsAt bs v w)) (leb-says (rankAt bs w) (rankAt bs v))))
+      every-says (sizeAt bs) (λ v. every-says (sizeAt bs) (λ w. imp-says (self-says (ownsAt S bs v w)) (leb-says (rankAt bs w) (rankAt bs v))))
 
-  pub matesGood-says : Says (matesGood bs) ((v : ℕ) → v < sizeAt bs → mateAt bs v ≢ noMate → Mated bs v (mateAt bs v))
+  pub matesGood-says : Says (matesGood S bs) ((v : ℕ) → v < sizeAt bs → mateAt S bs v ≢ noMate → Mated S bs v (mateAt S bs v))
   unfolding matesGood
-  matesGood-says = every-says (sizeAt bs) (λ v. or-says (eqb-says (mateAt bs v) noMate) (mated-says v (mateAt bs v)))
+  matesGood-says = every-says (sizeAt bs) (λ v. or-says (eqb-says (mateAt S bs v) noMate) (mated-says v (mateAt S bs v)))
 
-  pub freeLow-says : Says (freeLow bs)
-      ((v : ℕ) → v < sizeAt bs → (mateAt bs v ≡ noMate → rankAt bs v ≡ 0) × (rankAt bs v ≡ 0 → mateAt bs v ≡ noMate))
+  pub freeLow-says : Says (freeLow S bs)
+      ((v : ℕ) → v < sizeAt bs → (mateAt S bs v ≡ noMate → rankAt bs v ≡ 0) × (rankAt bs v ≡ 0 → mateAt S bs v ≡ noMate))
   unfolding freeLow
   freeLow-says =
       every-says (sizeAt bs) (λ v. and-says
-      (imp-says (eqb-says (mateAt bs v) noMate) (eqb-says (rankAt bs v) 0))
-      (imp-says (eqb-says (rankAt bs v) 0) (eqb-says (mateAt bs v) noMate)))
+      (imp-says (eqb-says (mateAt S bs v) noMate) (eqb-says (rankAt bs v) 0))
+      (imp-says (eqb-says (rankAt bs v) 0) (eqb-says (mateAt S bs v) noMate)))
 
-  pub phiLow-says : (R : Rules) → Says (phiLow R bs) ((v : ℕ) → v < sizeAt bs → (j : ℕ) → j < suc (R .top) → phiAt bs v j < R .thr j)
+  pub phiLow-says : (R : Rules) → Says (phiLow R S bs) ((v : ℕ) → v < sizeAt bs → (j : ℕ) → j < suc (R .top) → phiAt S bs v j < R .thr j)
   unfolding phiLow
-  phiLow-says R = every-says (sizeAt bs) (λ v. every-says (suc (R .top)) (λ j. leb-says (suc (phiAt bs v j)) (R .thr j)))
+  phiLow-says R = every-says (sizeAt bs) (λ v. every-says (suc (R .top)) (λ j. leb-says (suc (phiAt S bs v j)) (R .thr j)))
 
 -- all that is tested of a sound rack, in the order of the tests
-pub record Facts (R : Rules) (bs : List ℕ) : Type 0 where
-  pub spare : (k : ℕ) → k < 4 → getD bs (4 + k) 0 ≡ 0
-  pub unused : (v : ℕ) → v < 256 → sizeAt bs ≤ v → Unused bs v
-  pub unnamed : (v : ℕ) → v < 256 → (w : ℕ) → w < 256 → sizeAt bs ≤ w → T (ownsAt bs v w) → ⊥
-  pub size : (1 ≤ sizeAt bs) × (sizeAt bs ≤ 256)
+pub record Facts (R : Rules) (S : Shape) (bs : List ℕ) : Type 0 where
+  pub spare : (k : ℕ) → k < 2 + S .spare → getD bs (4 + k) 0 ≡ 0
+  pub unused : (v : ℕ) → v < S .most → sizeAt bs ≤ v → Unused S bs v
+  pub unnamed : (v : ℕ) → v < S .most → (w : ℕ) → w < S .most → sizeAt bs ≤ w → T (ownsAt S bs v w) → ⊥
+  pub size : (1 ≤ sizeAt bs) × (sizeAt bs ≤ S .most)
   pub ranks : (v : ℕ) → v < sizeAt bs → rankAt bs v ≤ suc (R .top)
-  pub no-loop : (v : ℕ) → v < sizeAt bs → T (ownsAt bs v v) → ⊥
-  pub owned-once : (v : ℕ) → v < sizeAt bs → (w : ℕ) → w < sizeAt bs → (T (ownsAt bs v w) × T (ownsAt bs w v)) → ⊥
-  pub edges : edgesAt bs ≡ edges (read bs)
-  pub phi : (v : ℕ) → v < sizeAt bs → (j : ℕ) → j < 4 → phiAt bs v j ≡ phi (read bs) v j
-  pub owner-high : (v : ℕ) → v < sizeAt bs → (w : ℕ) → w < sizeAt bs → T (ownsAt bs v w) → rankAt bs w ≤ rankAt bs v
-  pub mated : (v : ℕ) → v < sizeAt bs → mateAt bs v ≢ noMate → Mated bs v (mateAt bs v)
-  pub free-low : (v : ℕ) → v < sizeAt bs → (mateAt bs v ≡ noMate → rankAt bs v ≡ 0) × (rankAt bs v ≡ 0 → mateAt bs v ≡ noMate)
-  pub phi-low : (v : ℕ) → v < sizeAt bs → (j : ℕ) → j < suc (R .top) → phiAt bs v j < R .thr j
+  pub no-loop : (v : ℕ) → v < sizeAt bs → T (ownsAt S bs v v) → ⊥
+  pub owned-once : (v : ℕ) → v < sizeAt bs → (w : ℕ) → w < sizeAt bs → (T (ownsAt S bs v w) × T (ownsAt S bs w v)) → ⊥
+  pub edges : edgesAt S bs ≡ edges (read S bs)
+  pub phi : (v : ℕ) → v < sizeAt bs → (j : ℕ) → j < S .levels → phiAt S bs v j ≡ phi (read S bs) v j
+  pub owner-high : (v : ℕ) → v < sizeAt bs → (w : ℕ) → w < sizeAt bs → T (ownsAt S bs v w) → rankAt bs w ≤ rankAt bs v
+  pub mated : (v : ℕ) → v < sizeAt bs → mateAt S bs v ≢ noMate → Mated S bs v (mateAt S bs v)
+  pub free-low : (v : ℕ) → v < sizeAt bs → (mateAt S bs v ≡ noMate → rankAt bs v ≡ 0) × (rankAt bs v ≡ 0 → mateAt S bs v ≡ noMate)
+  pub phi-low : (v : ℕ) → v < sizeAt bs → (j : ℕ) → j < suc (R .top) → phiAt S bs v j < R .thr j
 
 both : {P Q : Type 0} → P → Q → P × Q
 both p q = (p, q)
 
-pub sound-says : (R : Rules) (bs : List ℕ) → Says (sound R bs) (Facts R bs)
+pub sound-says : (R : Rules) (S : Shape) (bs : List ℕ) → Says (sound R S bs) (Facts R S bs)
 unfolding sound
-sound-says R bs =
+sound-says R S bs =
     let e =
-    and-says (spareZero-says bs) (and-says (pastUnused-says bs) (and-says (pastUnnamed-says bs) (and-says (sizeGood-says (sizeAt bs))
-    (and-says (ranksGood-says bs R) (and-says (noLoop-says bs) (and-says (ownedOnce-says bs) (and-says (edgesRight-says bs)
-    (and-says (phiRight-says bs) (and-says (ownerHigh-says bs) (and-says (matesGood-says bs) (and-says (freeLow-says bs) (phiLow-says bs R)))))))))))) in
+    and-says (spareZero-says S bs) (and-says (pastUnused-says S bs) (and-says (pastUnnamed-says S bs) (and-says (sizeGood-says S (sizeAt bs))
+    (and-says (ranksGood-says S bs R) (and-says (noLoop-says S bs) (and-says (ownedOnce-says S bs) (and-says (edgesRight-says S bs)
+    (and-says (phiRight-says S bs) (and-says (ownerHigh-says S bs) (and-says (matesGood-says S bs) (and-says (freeLow-says S bs) (phiLow-says S bs R)))))))))))) in
     record {
       fact = λ h.
           let a = e .fact h in

@@ -1,173 +1,199 @@
--- Each field of an image, and of a rack that is written. Assumes nothing.
-use mathlib.Core.Path.{_≡_, refl, ap, ap₂, _∙_}
-use mathlib.Core.List.{List, [], _∷_, _++_}
-use Prim.Native.Nat.{ℕ, _+_, _*_, _/_, _%_, _<_}
+-- Each field of an image, and of a rack that is written: one law of parts, a line a field. Assumes nothing.
+use mathlib.Core.Path.{_≡_, sym, ap, ap₂, _∙_}
+use mathlib.Core.Logic.{inl, inr}
+use mathlib.Core.List.{List}
+use Prim.Native.Nat.{ℕ, _+_, _-_, _*_, _/_, _%_, _^_, _≤_, _<_}
+use native.Mathlib.Nat.{div-add-mod}
 use native.Mathlib.Omega.{arith}
-use lib.ListN.{length, getD, replicate, length-append, getD-replicate, List·getD-append}
-use Rattle.model.specs.Counting.{each}
+use lib.ListN.{length, getD}
+use Rattle.model.specs.Shape.{Shape, Good, ranksFrom, matesFrom, phisFrom, rowsFrom, rackLength}
 use Rattle.model.specs.State.{State, phi, edges}
-use Rattle.model.specs.Bytes.{rackLength, most, twoAt, sizeAt, edgesAt, rankAt, mateAt, phiAt, bitOf, ownsAt, Fields, two, rowByte, image, mateEntry, fieldsOf, write}
-use Rattle.model.proofs.Chunks.{behind, each-length, each-at, each-one-length, each-one-at, bit-rowByte}
+use Rattle.model.specs.Parts.{numAt, bitOf, rowByte, byRows}
+use Rattle.model.specs.Bytes.{half, sizeAt, edgesAt, rankAt, mateAt, phiAt, ownsAt, Fields, parts, image, mateEntry, fieldsOf, write}
+use Rattle.model.specs.Valid.{IsBytes}
+use Rattle.model.proofs.Tests.{eq?}
+use Rattle.model.proofs.Chunks.{rowByte-small, bit-rowByte, rowByte-of}
+use Rattle.model.proofs.Limits.{edges-fit}
+use Rattle.model.proofs.Parts.{rows-at, rows-inside, in-rows, bytes-length, next, Has, bytes-number, bytes-are, Fit, bytes-small}
 
-module _ (f : Fields) where
-  -- the parts of a written rack
-  abbrev pub heads : List ℕ
-  heads = two (f .n) ++ (two (f .edges) ++ replicate 4 0)
+-- the number that stands at k, which is m
+pub num-at : (w : ℕ) (bs : List ℕ) (k m : ℕ) {x : ℕ} → k ≡ m → numAt w bs m ≡ x → numAt w bs k ≡ x
+num-at w bs k m e p = ap (numAt w bs) e ∙ p
 
-  abbrev pub ranks : List ℕ
-  ranks = each most (λ v. f .rank v ∷ [])
+module _ (f : Fields) (good : Good (f .kind .shape)) where
+  abbrev shape : Shape
+  shape = f .kind .shape
 
-  abbrev pub mates : List ℕ
-  mates = each most (λ v. two (f .mate v))
+  pub image-length : length (image f) ≡ rackLength shape
+  unfolding image
+  image-length = bytes-length (parts f) ∙ omega (arith, good .spare)
 
-  abbrev pub phis : List ℕ
-  phis = each most (λ v. each 4 (λ j. f .phi v j ∷ []))
-
-  abbrev pub rows : List ℕ
-  rows = each most (λ v. each 32 (λ k. rowByte (f .owns v) k ∷ []))
-
-  pub parts : image f ≡ heads ++ (ranks ++ (mates ++ (phis ++ rows)))
-  unfolding image two
-  parts = refl
-
-  pub heads-length : length heads ≡ 8
-  unfolding two
-  heads-length = refl
-
-  pub ranks-length : length ranks ≡ 256
-  ranks-length = each-one-length (f .rank) 256
-
-  two-length : (v : ℕ) → length (two (f .mate v)) ≡ 2
-  unfolding two
-  two-length v = refl
-
-  pub mates-length : length mates ≡ 512
-  mates-length = each-length 2 (λ v. two (f .mate v)) two-length 256
-
-  pub phis-length : length phis ≡ 1024
-  phis-length = each-length 4 (λ v. each 4 (λ j. f .phi v j ∷ [])) (λ v. each-one-length (f .phi v) 4) 256
-
-  pub rows-length : length rows ≡ 8192
-  rows-length = each-length 32 (λ v. each 32 (λ k. rowByte (f .owns v) k ∷ [])) (λ v. each-one-length (rowByte (f .owns v)) 32) 256
-
-  pub image-length : length (image f) ≡ rackLength
-  image-length =
-      ap length parts
-      ∙ length-append heads (ranks ++ (mates ++ (phis ++ rows)))
-      ∙ omega (
-        arith,
-        heads-length,
-        length-append ranks (mates ++ (phis ++ rows)),
-        length-append mates (phis ++ rows),
-        length-append phis rows,
-        ranks-length,
-        mates-length,
-        phis-length,
-        rows-length,
-      )
-
-  -- what stands from each part on
-  from-ranks : (i : ℕ) → getD (image f) (8 + i) 0 ≡ getD (ranks ++ (mates ++ (phis ++ rows))) i 0
-  from-ranks i = rw parts (behind heads _ 8 i heads-length)
-
-  from-mates : (i : ℕ) → getD (image f) (264 + i) 0 ≡ getD (mates ++ (phis ++ rows)) i 0
-  from-mates i =
-      let e : 264 + i ≡ 8 + (256 + i) = omega arith in
-      ap (λ (x : ℕ). getD (image f) x 0) e ∙ from-ranks (256 + i) ∙ behind ranks _ 256 i ranks-length
-
-  from-phis : (i : ℕ) → getD (image f) (776 + i) 0 ≡ getD (phis ++ rows) i 0
-  from-phis i =
-      let e : 776 + i ≡ 264 + (512 + i) = omega arith in
-      ap (λ (x : ℕ). getD (image f) x 0) e ∙ from-mates (512 + i) ∙ behind mates _ 512 i mates-length
-
-  from-rows : (i : ℕ) → getD (image f) (1800 + i) 0 ≡ getD rows i 0
-  from-rows i =
-      let e : 1800 + i ≡ 776 + (1024 + i) = omega arith in
-      ap (λ (x : ℕ). getD (image f) x 0) e ∙ from-phis (1024 + i) ∙ behind phis _ 1024 i phis-length
-
-  -- each field holds what the field says of it; two bytes hold a number whole, since the high one is not cut
   pub size-image : sizeAt (image f) ≡ f .n
-  unfolding sizeAt twoAt image two
-  size-image = omega arith
+  unfolding sizeAt image
+  size-image = bytes-number 0 (parts f) 0 0 (omega arith) (omega arith) (omega arith)
 
-  pub edges-image : edgesAt (image f) ≡ f .edges
-  unfolding edgesAt twoAt image two
-  edges-image = omega arith
+  low-image : numAt 2 (image f) 2 ≡ f .edges % half
+  unfolding image
+  low-image = bytes-number 1 (parts f) 0 2 (omega arith) (omega arith) (omega arith)
 
-  pub spare-image : (k : ℕ) → k < 4 → getD (image f) (4 + k) 0 ≡ 0
-  unfolding two
-  spare-image k l =
-      ap (λ (x : List ℕ). getD x (4 + k) 0) parts
-      ∙ List·getD-append heads (ranks ++ (mates ++ (phis ++ rows))) 0 (4 + k) (omega (arith, heads-length))
-      ∙ behind (two (f .n) ++ two (f .edges)) (replicate 4 0) 4 k refl ∙ getD-replicate 4 k 0 0 l
+  -- of the number of edges all is there, since it fits two bytes where the others are spare
+  high-image : f .edges / half < 256 ^ (2 - shape .spare) → numAt (2 - shape .spare) (image f) (6 + shape .spare) ≡ f .edges / half
+  unfolding image numAt
+  high-image small = elim (eq? (shape .spare) 2) [
+    | inl e ↦ ap (λ (x : ℕ). numAt (2 - x) (image f) (6 + shape .spare)) e ∙ omega (arith, ap (λ (x : ℕ). 256 ^ (2 - x)) e)
+    | inr d ↦ bytes-number 3 (parts f) 0 (6 + shape .spare) (omega arith) (omega (arith, good .spare)) (omega arith)
+  ]
 
-  pub rank-image : (v : ℕ) → v < 256 → rankAt (image f) v ≡ f .rank v
-  unfolding rankAt
-  rank-image v l =
-      from-ranks v ∙ List·getD-append ranks _ 0 v (omega (arith, ranks-length)) ∙ each-one-at (f .rank) 256 v 0 l
+  pub edges-image : f .edges / half < 256 ^ (2 - shape .spare) → edgesAt shape (image f) ≡ f .edges
+  unfolding edgesAt
+  edges-image small = omega (arith, low-image, high-image small)
 
-  mate-byte : (v i : ℕ) → v < 256 → i < 2 → getD (image f) (264 + (2 * v + i)) 0 ≡ getD (two (f .mate v)) i 0
-  mate-byte v i l h =
-      from-mates (2 * v + i) ∙ List·getD-append mates _ 0 (2 * v + i) (omega (arith, mates-length))
-      ∙ each-at 2 (λ v. two (f .mate v)) two-length 256 v i 0 l h
+  pub spare-image : (k : ℕ) → k < 2 + shape .spare → getD (image f) (4 + k) 0 ≡ 0
+  unfolding image numAt
+  spare-image k l = bytes-number 2 (parts f) k (4 + k) l (omega arith) (omega arith)
 
-  pub mate-image : (v : ℕ) → v < 256 → mateAt (image f) v ≡ f .mate v
-  unfolding mateAt twoAt two
-  mate-image v l =
-      let a : 264 + 2 * v ≡ 264 + (2 * v + 0) = omega arith in
-      let b : 264 + 2 * v + 1 ≡ 264 + (2 * v + 1) = omega arith in
-      ap₂ (λ (x y : ℕ). getD (image f) x 0 + 256 * getD (image f) y 0) a b
-      ∙ omega (arith, mate-byte v 0 l (omega arith), mate-byte v 1 l (omega arith))
+  pub rank-image : (v : ℕ) → v < shape .most → rankAt (image f) v ≡ f .rank v
+  unfolding rankAt image numAt
+  rank-image v l = bytes-number 4 (parts f) v (ranksFrom + v) l (omega arith) (omega (arith, good .spare))
 
-  pub phi-image : (v j : ℕ) → v < 256 → j < 4 → phiAt (image f) v j ≡ f .phi v j
-  unfolding phiAt
+  pub mate-image : (v : ℕ) → v < shape .most → mateAt shape (image f) v ≡ f .mate v
+  unfolding mateAt image
+  mate-image v l = bytes-number 5 (parts f) v (matesFrom shape + 2 * v) l (omega arith) (omega (arith, good .spare))
+
+  pub phi-image : (v j : ℕ) → v < shape .most → j < shape .levels → phiAt shape (image f) v j ≡ f .phi v j
+  unfolding phiAt image
   phi-image v j l h =
-      from-phis (4 * v + j) ∙ List·getD-append phis _ 0 (4 * v + j) (omega (arith, phis-length))
-      ∙ each-at 4 (λ v. each 4 (λ j. f .phi v j ∷ [])) (λ v. each-one-length (f .phi v) 4) 256 v j 0 l h ∙ each-one-at (f .phi v) 4 j 0 h
+      let i : ℕ = shape .levels * v + j in
+      bytes-number 6 (parts f) i (phisFrom shape + shape .width * i) (rows-inside (shape .most) (shape .levels) v j l h) (good .wide)
+      (omega (arith, good .spare))
+      ∙ rows-at (f .phi) (shape .levels) v j h
 
-  pub row-byte : (v k : ℕ) → v < 256 → k < 32 → getD (image f) (1800 + (32 * v + k)) 0 ≡ rowByte (f .owns v) k
+  pub row-byte : (v k : ℕ) → v < shape .most → k < shape .row → getD (image f) (rowsFrom shape + (shape .row * v + k)) 0 ≡ rowByte (f .owns v) k
+  unfolding image numAt
   row-byte v k l h =
-      from-rows (32 * v + k)
-      ∙ each-at 32 (λ v. each 32 (λ k. rowByte (f .owns v) k ∷ [])) (λ v. each-one-length (rowByte (f .owns v)) 32) 256 v k 0 l h
-      ∙ each-one-at (rowByte (f .owns v)) 32 k 0 h
+      let i : ℕ = shape .row * v + k in
+      bytes-number 7 (parts f) i (rowsFrom shape + i) (rows-inside (shape .most) (shape .row) v k l h) (omega arith) (omega (arith, good .spare))
+      ∙ rows-at (λ v. rowByte (f .owns v)) (shape .row) v k h
 
-  pub owns-image : (v w : ℕ) → v < 256 → w < 256 → ownsAt (image f) v w ≡ f .owns v w
+  pub owns-image : (v w : ℕ) → v < shape .most → w < shape .most → ownsAt shape (image f) v w ≡ f .owns v w
   unfolding ownsAt
   owns-image v w l h =
       let e : 8 * (w / 8) + w % 8 ≡ w = omega arith in
-      ap (λ (x : ℕ). bitOf x (w % 8)) (row-byte v (w / 8) l (omega arith))
+      ap (λ (x : ℕ). bitOf x (w % 8)) (row-byte v (w / 8) l (omega (arith, good .rows)))
       ∙ bit-rowByte (f .owns v) (w / 8) (w % 8) (omega arith) ∙ ap (f .owns v) e
 
--- the same of a rack, written
-module _ (s : State) where
-  pub write-length : length (write s) ≡ rackLength
-  unfolding write
-  write-length = image-length (fieldsOf s)
+-- ---- bytes that show the fields are their image
+
+pub record Shows (f : Fields) (bs : List ℕ) : Type 0 where
+  pub size : sizeAt bs ≡ f .n
+  pub edges : edgesAt (f .kind .shape) bs ≡ f .edges
+  pub spare : (k : ℕ) → k < 2 + f .kind .shape .spare → getD bs (4 + k) 0 ≡ 0
+  pub rank : (v : ℕ) → v < f .kind .shape .most → rankAt bs v ≡ f .rank v
+  pub mate : (v : ℕ) → v < f .kind .shape .most → mateAt (f .kind .shape) bs v ≡ f .mate v
+  pub phi : (v j : ℕ) → v < f .kind .shape .most → j < f .kind .shape .levels → phiAt (f .kind .shape) bs v j ≡ f .phi v j
+  pub owns : (v w : ℕ) → v < f .kind .shape .most → w < f .kind .shape .most → ownsAt (f .kind .shape) bs v w ≡ f .owns v w
+
+module _ (f : Fields) (good : Good (f .kind .shape)) (bs : List ℕ) (bytes : IsBytes bs) (shows : Shows f bs) where
+  abbrev S : Shape
+  S = f .kind .shape
+
+  -- both halves of the number of edges
+  low-small : numAt 2 bs 2 < half
+  unfolding numAt
+  low-small = omega (arith, bytes 2, bytes 3)
+
+  shown-phi : (i : ℕ) → i < S .most * S .levels → numAt (S .width) bs (phisFrom S + S .width * i) ≡ byRows (S .levels) (f .phi) i
+  unfolding phiAt
+  shown-phi i l =
+      let p = in-rows (S .most) (S .levels) i l in
+      let e : i ≡ S .levels * (i / S .levels) + i % S .levels = sym (div-add-mod i (S .levels)) in
+      ap (λ (x : ℕ). numAt (S .width) bs (phisFrom S + S .width * x)) e ∙ shows .phi (i / S .levels) (i % S .levels) (p .0) (p .1)
+
+  shown-row : (i : ℕ) → i < S .most * S .row → getD bs (rowsFrom S + i) 0 ≡ byRows (S .row) (λ v. rowByte (f .owns v)) i
+  unfolding ownsAt
+  shown-row i l =
+      let v : ℕ = i / S .row in
+      let k : ℕ = i % S .row in
+      let p = in-rows (S .most) (S .row) i l in
+      sym (rowByte-of (getD bs (rowsFrom S + i) 0) (bytes (rowsFrom S + i)) (f .owns v) k (λ b c.
+      let at : S .row * v + (8 * k + b) / 8 ≡ i = omega (arith, div-add-mod i (S .row)) in
+      let bit : (8 * k + b) % 8 ≡ b = omega arith in
+      sym (shows .owns v (8 * k + b) (p .0) (omega (arith, good .rows, p .1)))
+      ∙ ap₂ (λ (x y : ℕ). bitOf (getD bs (rowsFrom S + x) 0) y) at bit))
+
+  pub image-is : length bs ≡ rackLength S → bs ≡ image f
+  unfolding image Has sizeAt edgesAt rankAt mateAt numAt
+  image-is e =
+      bytes-are (parts f) bs bytes (omega (arith, good .spare))
+      (next (λ i l w. num-at 2 bs _ 0 (omega arith) (shows .size))
+      (next (λ i l w. num-at 2 bs _ 2 (omega arith) (omega (arith, shows .edges, low-small)))
+      (next (λ i l w. num-at 1 bs _ (4 + i) (omega arith) (shows .spare i l))
+      (next (λ i l w.
+      let z : i ≡ 0 = omega arith in
+      num-at (2 - S .spare) bs _ (6 + S .spare) (omega (arith, ap (λ (x : ℕ). (2 - S .spare) * x) z)) (omega (arith, shows .edges, low-small)))
+      (next (λ i l w. num-at 1 bs _ (ranksFrom + i) (omega (arith, good .spare)) (shows .rank i l))
+      (next (λ i l w. num-at 2 bs _ (matesFrom S + 2 * i) (omega (arith, good .spare)) (shows .mate i l))
+      (next (λ i l w. num-at (S .width) bs _ (phisFrom S + S .width * i) (omega (arith, good .spare)) (shown-phi i l))
+      (next (λ i l w. num-at 1 bs _ (rowsFrom S + i) (omega (arith, good .spare)) (shown-row i l)) tt))))))))
+
+-- ---- when what is written is bytes
+
+-- fields that fit their places
+pub record Fits (f : Fields) : Type 0 where
+  pub n : f .n < half
+  pub edges : f .edges / half < 256 ^ (2 - f .kind .shape .spare)
+  pub rank : (v : ℕ) → v < f .kind .shape .most → f .rank v < 256
+  pub mate : (v : ℕ) → v < f .kind .shape .most → f .mate v < half
+  pub phi : (v j : ℕ) → v < f .kind .shape .most → j < f .kind .shape .levels → f .phi v j < 256 ^ f .kind .shape .width
+
+pub image-bytes : (f : Fields) → Good (f .kind .shape) → Fits f → IsBytes (image f)
+unfolding image Fit
+image-bytes f good h =
+    let S : Shape = f .kind .shape in
+    bytes-small (parts f)
+    (next (λ i l. h .n)
+    (next (λ i l. omega arith)
+    (next (λ i l. omega arith)
+    (next (λ i l. h .edges)
+    (next (h .rank)
+    (next (h .mate)
+    (next (λ i l. let p = in-rows (S .most) (S .levels) i l in h .phi (i / S .levels) (i % S .levels) (p .0) (p .1))
+    (next (λ i l. rowByte-small (f .owns (i / S .row)) (i % S .row)) tt))))))))
+
+-- ---- a rack, written
+
+module _ (s : State) (good : Good (s .kind .shape)) where
+  abbrev of : Shape
+  of = s .kind .shape
+
+  pub write-length : length (write s) ≡ rackLength of
+  unfolding write fieldsOf
+  write-length = image-length (fieldsOf s) good
 
   pub size-write : sizeAt (write s) ≡ s .n
   unfolding write fieldsOf
-  size-write = size-image (fieldsOf s)
+  size-write = size-image (fieldsOf s) good
 
-  pub edges-write : edgesAt (write s) ≡ edges s
+  pub edges-write : s .n ≤ of .most → edgesAt of (write s) ≡ edges s
   unfolding write fieldsOf
-  edges-write = edges-image (fieldsOf s)
+  edges-write few = edges-image (fieldsOf s) good (edges-fit s good few)
 
-  pub spare-write : (k : ℕ) → k < 4 → getD (write s) (4 + k) 0 ≡ 0
-  unfolding write
-  spare-write = spare-image (fieldsOf s)
-
-  pub rank-write : (v : ℕ) → v < 256 → rankAt (write s) v ≡ s .rank v
+  pub spare-write : (k : ℕ) → k < 2 + of .spare → getD (write s) (4 + k) 0 ≡ 0
   unfolding write fieldsOf
-  rank-write = rank-image (fieldsOf s)
+  spare-write = spare-image (fieldsOf s) good
 
-  pub mate-write : (v : ℕ) → v < 256 → mateAt (write s) v ≡ mateEntry s v
+  pub rank-write : (v : ℕ) → v < of .most → rankAt (write s) v ≡ s .rank v
   unfolding write fieldsOf
-  mate-write = mate-image (fieldsOf s)
+  rank-write = rank-image (fieldsOf s) good
 
-  pub phi-write : (v j : ℕ) → v < 256 → j < 4 → phiAt (write s) v j ≡ phi s v j
+  pub mate-write : (v : ℕ) → v < of .most → mateAt of (write s) v ≡ mateEntry s v
   unfolding write fieldsOf
-  phi-write = phi-image (fieldsOf s)
+  mate-write = mate-image (fieldsOf s) good
 
-  pub owns-write : (v w : ℕ) → v < 256 → w < 256 → ownsAt (write s) v w ≡ s .owns v w
+  pub phi-write : (v j : ℕ) → v < of .most → j < of .levels → phiAt of (write s) v j ≡ phi s v j
   unfolding write fieldsOf
-  owns-write = owns-image (fieldsOf s)
+  phi-write = phi-image (fieldsOf s) good
+
+  pub owns-write : (v w : ℕ) → v < of .most → w < of .most → ownsAt of (write s) v w ≡ s .owns v w
+  unfolding write fieldsOf
+  owns-write = owns-image (fieldsOf s) good

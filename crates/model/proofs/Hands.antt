@@ -7,6 +7,7 @@ use Prim.Native.Nat.{ℕ, _+_, _-_, _%_}
 use native.Mathlib.Omega.{arith}
 use lib.Dec.{T, eqb, leb}
 use Rattle.model.specs.Counting.{sum, count, every}
+use Rattle.model.specs.Shape.{low}
 use Rattle.model.specs.State.{State, base, edge, near, below, phi}
 use Rattle.model.specs.Bytes.{write}
 use Rattle.model.specs.Sound.{sound}
@@ -23,7 +24,7 @@ crowd = laid 17
     (λ v. cond (eqb v 0) 1 (cond (eqb v 1) 0 (cond (leb v 4) v (cond (eqb (v % 2) 1) (v + 1) (v - 1)))))
     (λ v w. eqb v 0 && (leb 1 w && leb w 3) || leb 5 v && (eqb w 0 || eqb (v % 2) 1 && eqb w (v + 1)))
 
-pub crowd-sound : T (sound base (write crowd))
+pub crowd-sound : T (sound base low (write crowd))
 unfolding crowd
 crowd-sound = laid-sound 17 _ _ _ (omega arith) (omega arith) (unfold laid base tested every sum count edge near below phi in tt)
 

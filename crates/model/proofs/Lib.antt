@@ -5,8 +5,9 @@ pub mod Sums
 pub mod Prefix
 pub mod Lists
 pub mod Chunks
+pub mod Shapes
+pub mod Parts
 pub mod Fields
-pub mod Same
 pub mod Facts
 pub mod Limits
 pub mod Reading

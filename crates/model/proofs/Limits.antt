@@ -1,14 +1,16 @@
 -- What follows at once for the counts of a state, and for a valid state: nothing from n on, and every number fits its place in the bytes.
 -- Assumes nothing.
-use mathlib.Core.Path.{_≡_, refl}
+use mathlib.Core.Path.{_≡_, refl, ap}
 use mathlib.Core.Logic.{_≢_, inl, inr}
 use mathlib.Core.Bool.{Bool, true, false, _&&_}
-use Prim.Native.Nat.{ℕ, suc, _≤_, _<_}
+use Prim.Native.Nat.{ℕ, suc, _-_, _*_, _/_, _^_, _≤_, _<_}
+use native.Mathlib.Nat.{one-le-pow}
 use native.Mathlib.Omega.{arith}
 use lib.Dec.{T, leb, ltb, leb→le}
+use Rattle.model.specs.Shape.{Good}
 use Rattle.model.specs.Counting.{count}
 use Rattle.model.specs.State.{Rules, State, edge, near, below, phi, edges}
-use Rattle.model.specs.Bytes.{noMate, mateEntry}
+use Rattle.model.specs.Bytes.{noMate, half, mateEntry}
 use Rattle.model.specs.Valid.{Valid}
 use Rattle.model.proofs.Tests.{eq?, le?, eqb-yes, eqb-no, leb-yes, leb-no, and-left, or-cases}
 use Rattle.model.proofs.Counting.{sum-bound, count-none, count-miss}
@@ -30,19 +32,33 @@ pub phi-zero : (s : State) (v j : ℕ) → j < s .rank v → phi s v j ≡ 0
 unfolding phi
 phi-zero s v j h = rw (leb-no (s .rank v) j h, phi) refl
 
--- no edge is counted at its own end, so each vertex counts at most 255 and there are fewer than 65,536 in all
-pub edges-few : (s : State) → s .n ≤ 256 → edges s < 65536
+-- no edge is counted at its own end, so each of at most suc m vertices counts at most m
+pub edges-bound : (s : State) (m : ℕ) → s .n ≤ suc m → edges s ≤ s .n * m
 unfolding edges
-edges-few s h =
-    omega (
+edges-bound s m h =
+    sum-bound (λ v. count (λ w. ltb v w && edge s v w) (s .n)) m (s .n)
+    (λ v l. omega (
       arith,
-      sum-bound (λ v. count (λ w. ltb v w && edge s v w) (s .n)) 255 (s .n)
-          (λ v l. omega (
-            arith,
-            count-miss (λ w. ltb v w && edge s v w) v (s .n) l
-                (λ t. let z : v < v = leb→le (suc v) v (and-left (ltb v v) _ t) in omega arith),
-          )),
-    )
+      count-miss (λ w. ltb v w && edge s v w) v (s .n) l
+          (λ t. let z : v < v = leb→le (suc v) v (and-left (ltb v v) _ t) in omega arith),
+    ))
+
+-- what of their number doesn't fit two bytes fits the bytes that are not spare
+pub edges-fit : (s : State) → Good (s .kind .shape) → s .n ≤ s .kind .shape .most → edges s / half < 256 ^ (2 - s .kind .shape .spare)
+edges-fit s good few = elim (eq? (s .kind .shape .spare) 0) [
+  | inl z ↦ omega (
+    arith,
+    ap (λ (x : ℕ). 256 ^ (2 - x)) z,
+    good .named,
+    edges-bound s 65535 (omega (arith, good .named)),
+  )
+  | inr d ↦ omega (
+    arith,
+    one-le-pow (2 - s .kind .shape .spare) 256 (omega arith),
+    good .edges (omega arith),
+    edges-bound s 255 (omega (arith, good .edges (omega arith))),
+  )
+]
 
 -- a vertex that is its own mate is written as free, and any other mate as it is
 pub mateEntry-free : (s : State) (v : ℕ) → s .mate v ≡ v → mateEntry s v ≡ noMate
@@ -73,7 +89,7 @@ module _ (s : State) (inside : (v w : ℕ) → T (s .owns v w) → (v < s .n) ×
       )
 
 module _ {R : Rules} {s : State} (ok : Valid R s) where
-  pub size-few : s .n ≤ 256
+  pub size-few : s .n ≤ s .kind .shape .most
   size-few = ok .few
 
   pub edge-inside : (v w : ℕ) → T (edge s v w) → (v < s .n) × (w < s .n)
@@ -92,10 +108,10 @@ module _ {R : Rules} {s : State} (ok : Valid R s) where
   pub phi-past : (v j : ℕ) → s .n ≤ v → phi s v j ≡ 0
   phi-past v j l = phi-none s (ok .inside) v j l
 
-  pub phi-few : (v j : ℕ) → phi s v j < 256
+  pub phi-few : (v j : ℕ) → phi s v j < s .kind .shape .most
   unfolding below near
   phi-few v j = elim (le? (s .n) v) [
-    | inl l ↦ omega (arith, phi-past v j l)
+    | inl l ↦ omega (arith, phi-past v j l, ok .some, size-few)
     | inr l ↦ omega (
       arith,
       size-few,
@@ -104,8 +120,8 @@ module _ {R : Rules} {s : State} (ok : Valid R s) where
     )
   ]
 
-  pub mateEntry-few : (v : ℕ) → mateEntry s v < 65536
-  mateEntry-few v = elim (eq? (s .mate v) v) [
+  pub mateEntry-few : Good (s .kind .shape) → (v : ℕ) → mateEntry s v < 65536
+  mateEntry-few good v = elim (eq? (s .mate v) v) [
     | inl e ↦ omega (arith, mateEntry-free s v e)
-    | inr d ↦ omega (arith, mateEntry-mate s v d, mate-inside v d, size-few)
+    | inr d ↦ omega (arith, mateEntry-mate s v d, mate-inside v d, size-few, good .named)
   ]

@@ -7,6 +7,7 @@ use native.Mathlib.Omega.{arith}
 use lib.Dec.{T, eqb, leb}
 use lib.ListN.{getD}
 use Rattle.model.specs.Counting.{sum, count, every}
+use Rattle.model.specs.Shape.{low}
 use Rattle.model.specs.State.{State, base, edge, near, below, phi}
 use Rattle.model.specs.Bytes.{write}
 use Rattle.model.specs.Sound.{sound}
@@ -41,15 +42,15 @@ perch = laid 7
     (λ v. getD (0 ∷ 4 ∷ 2 ∷ 5 ∷ 1 ∷ 3 ∷ 6 ∷ []) v v)
     (λ v w. eqb v 1 && (leb 3 w && leb w 5) || (eqb v 4 && (eqb w 3 || eqb w 5) || (eqb v 3 && (eqb w 0 || leb 5 w) || eqb v 5 && (eqb w 2 || eqb w 6))))
 
-pub ledge-sound : T (sound base (write ledge))
+pub ledge-sound : T (sound base low (write ledge))
 unfolding ledge
 ledge-sound = laid-sound 7 _ _ _ (omega arith) (omega arith) (unfold laid base tested every sum count edge near below phi in tt)
 
-pub shelf-sound : T (sound base (write shelf))
+pub shelf-sound : T (sound base low (write shelf))
 unfolding shelf
 shelf-sound = laid-sound 6 _ _ _ (omega arith) (omega arith) (unfold laid base tested every sum count edge near below phi in tt)
 
-pub perch-sound : T (sound base (write perch))
+pub perch-sound : T (sound base low (write perch))
 unfolding perch
 perch-sound = laid-sound 7 _ _ _ (omega arith) (omega arith) (unfold laid base tested every sum count edge near below phi in tt)
 

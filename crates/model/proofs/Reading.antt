@@ -5,6 +5,7 @@ use mathlib.Core.List.{List}
 use Prim.Native.Nat.{ℕ, suc, _≤_, _<_}
 use native.Mathlib.Omega.{arith}
 use lib.Dec.{T, ltb, leb→le}
+use Rattle.model.specs.Shape.{Shape, Good}
 use Rattle.model.specs.State.{Rules, State}
 use Rattle.model.specs.Bytes.{noMate, sizeAt, rankAt, mateAt, ownsAt, named, read, mateEntry, write}
 use Rattle.model.specs.Valid.{Valid}
@@ -22,33 +23,37 @@ unfolding named
 named-mate v m e = rw (eqb-no m noMate e, named) refl
 
 -- The fields of a reading: below n as they stand, from n on nothing.
-module _ (bs : List ℕ) where
-  pub read-size : read bs .n ≡ sizeAt bs
+module _ (S : Shape) (bs : List ℕ) where
+  pub read-size : read S bs .n ≡ sizeAt bs
   unfolding read
   read-size = refl
 
-  pub read-rank : (v : ℕ) → v < sizeAt bs → read bs .rank v ≡ rankAt bs v
+  pub read-shape : read S bs .kind .shape ≡ S
+  unfolding read
+  read-shape = refl
+
+  pub read-rank : (v : ℕ) → v < sizeAt bs → read S bs .rank v ≡ rankAt bs v
   unfolding read
   read-rank v l = rw (leb-yes (suc v) (sizeAt bs) l, read) refl
 
-  pub read-rank-past : (v : ℕ) → sizeAt bs ≤ v → read bs .rank v ≡ 0
+  pub read-rank-past : (v : ℕ) → sizeAt bs ≤ v → read S bs .rank v ≡ 0
   unfolding read
   read-rank-past v l = rw (leb-no (suc v) (sizeAt bs) (omega arith), read) refl
 
-  pub read-mate : (v : ℕ) → v < sizeAt bs → read bs .mate v ≡ named v (mateAt bs v)
+  pub read-mate : (v : ℕ) → v < sizeAt bs → read S bs .mate v ≡ named v (mateAt S bs v)
   unfolding read
   read-mate v l = rw (leb-yes (suc v) (sizeAt bs) l, read) refl
 
-  pub read-mate-past : (v : ℕ) → sizeAt bs ≤ v → read bs .mate v ≡ v
+  pub read-mate-past : (v : ℕ) → sizeAt bs ≤ v → read S bs .mate v ≡ v
   unfolding read
   read-mate-past v l = rw (leb-no (suc v) (sizeAt bs) (omega arith), read) refl
 
-  pub read-owns : (v w : ℕ) → v < sizeAt bs → w < sizeAt bs → read bs .owns v w ≡ ownsAt bs v w
+  pub read-owns : (v w : ℕ) → v < sizeAt bs → w < sizeAt bs → read S bs .owns v w ≡ ownsAt S bs v w
   unfolding read
   read-owns v w l k = rw (leb-yes (suc v) (sizeAt bs) l, leb-yes (suc w) (sizeAt bs) k, read) refl
 
   -- what a reading owns is below n, and stands in the bytes
-  pub read-owned : (v w : ℕ) → T (read bs .owns v w) → (v < sizeAt bs) × (w < sizeAt bs) × T (ownsAt bs v w)
+  pub read-owned : (v w : ℕ) → T (read S bs .owns v w) → (v < sizeAt bs) × (w < sizeAt bs) × T (ownsAt S bs v w)
   unfolding read
   read-owned v w t =
       let r = and-right (ltb v (sizeAt bs)) _ t in (
@@ -57,41 +62,58 @@ module _ (bs : List ℕ) where
         and-right (ltb w (sizeAt bs)) _ r,
       )
 
--- a state read back
-module _ (R : Rules) (s : State) (ok : Valid R s) where
-  back-rank : (v : ℕ) → read (write s) .rank v ≡ s .rank v
+-- A state read back: where nothing stands from n on, and the mates and the ends of edges are vertices.
+module _ (s : State) (good : Good (s .kind .shape)) (few : s .n ≤ s .kind .shape .most)
+    (inside : (v w : ℕ) → T (s .owns v w) → (v < s .n) × (w < s .n)) (past-rank : (v : ℕ) → s .n ≤ v → s .rank v ≡ 0)
+    (past-mate : (v : ℕ) → s .n ≤ v → s .mate v ≡ v) (mates : (v : ℕ) → v < s .n → s .mate v < s .n) where
+  abbrev S : Shape
+  S = s .kind .shape
+
+  back-rank : (v : ℕ) → read S (write s) .rank v ≡ s .rank v
   back-rank v = elim (le? (s .n) v) [
-    | inl l ↦ read-rank-past (write s) v (omega (arith, size-write s)) ∙ sym (ok .past v l)
-    | inr l ↦ read-rank (write s) v (omega (arith, size-write s)) ∙ rank-write s v (omega (arith, size-few ok))
+    | inl l ↦ read-rank-past S (write s) v (omega (arith, size-write s good)) ∙ sym (past-rank v l)
+    | inr l ↦ read-rank S (write s) v (omega (arith, size-write s good)) ∙ rank-write s good v (omega arith)
   ]
 
-  -- the mate of a vertex is never the marker
-  pub not-marker : (v : ℕ) → s .mate v ≢ v → s .mate v ≢ noMate
-  not-marker v d e = omega (arith, mate-inside ok v d, size-few ok)
-
-  back-mate : (v : ℕ) → read (write s) .mate v ≡ s .mate v
+  back-mate : (v : ℕ) → read S (write s) .mate v ≡ s .mate v
   back-mate v = elim (le? (s .n) v) [
-    | inl l ↦ read-mate-past (write s) v (omega (arith, size-write s)) ∙ sym (mate-past ok v l)
+    | inl l ↦ read-mate-past S (write s) v (omega (arith, size-write s good)) ∙ sym (past-mate v l)
     | inr l ↦
-        read-mate (write s) v (omega (arith, size-write s)) ∙ ap (named v) (mate-write s v (omega (arith, size-few ok)))
+        read-mate S (write s) v (omega (arith, size-write s good)) ∙ ap (named v) (mate-write s good v (omega arith))
         ∙ elim (eq? (s .mate v) v) [
           | inl e ↦ named-free v (mateEntry s v) (mateEntry-free s v e) ∙ sym e
-          | inr d ↦ ap (named v) (mateEntry-mate s v d) ∙ named-mate v (s .mate v) (not-marker v d)
+          | inr d ↦ ap (named v) (mateEntry-mate s v d) ∙ named-mate v (s .mate v) (λ e. omega (arith, mates v l, good .named))
         ]
   ]
 
-  back-owns : (v w : ℕ) → read (write s) .owns v w ≡ s .owns v w
+  back-owns : (v w : ℕ) → read S (write s) .owns v w ≡ s .owns v w
   back-owns v w =
-      bool-ext (read (write s) .owns v w) (s .owns v w)
-      (λ t. let r = read-owned (write s) v w t in
-      subst T (owns-write s v w (omega (arith, size-few ok, size-write s)) (omega (arith, size-few ok, size-write s))) (r .2))
-      (λ t. let r = ok .inside v w t in
-      let e : read (write s) .owns v w ≡ s .owns v w =
-      read-owns (write s) v w (omega (arith, size-write s)) (omega (arith, size-write s))
-      ∙ owns-write s v w (omega (arith, size-few ok)) (omega (arith, size-few ok)) in
+      bool-ext (read S (write s) .owns v w) (s .owns v w)
+      (λ t. let r = read-owned S (write s) v w t in
+      subst T (owns-write s good v w (omega (arith, size-write s good)) (omega (arith, size-write s good))) (r .2))
+      (λ t. let r = inside v w t in
+      let e : read S (write s) .owns v w ≡ s .owns v w =
+      read-owns S (write s) v w (omega (arith, size-write s good)) (omega (arith, size-write s good))
+      ∙ owns-write s good v w (omega arith) (omega arith) in
       subst T (sym e) t)
 
-  -- what is written of a valid state reads back as it
-  pub read-write : read (write s) ≡ s
+  pub read-back : read S (write s) ≡ s
   unfolding read
-  read-write = λ i. record { n = size-write s i; rank = λ v. back-rank v i; mate = λ v. back-mate v i; owns = λ v w. back-owns v w i }
+  read-back = λ i. record {
+    kind = s .kind;
+    n = size-write s good i;
+    rank = λ v. back-rank v i;
+    mate = λ v. back-mate v i;
+    owns = λ v w. back-owns v w i;
+  }
+
+-- so is a valid state
+module _ (R : Rules) (s : State) (good : Good (s .kind .shape)) (ok : Valid R s) where
+  -- the mate of a vertex is never the marker
+  pub not-marker : (v : ℕ) → s .mate v ≢ v → s .mate v ≢ noMate
+  not-marker v d e = omega (arith, mate-inside ok v d, size-few ok, good .named)
+
+  pub read-write : read (s .kind .shape) (write s) ≡ s
+  read-write =
+      read-back s good (size-few ok) (ok .inside) (ok .past) (mate-past ok)
+      (λ v l. elim (eq? (s .mate v) v) [ inl e ↦ omega arith | inr d ↦ mate-inside ok v d ])

@@ -8,13 +8,15 @@ use native.Mathlib.Nat.{one-le-pow}
 use native.Mathlib.Omega.{arith}
 use lib.Dec.{T, leb, ltb, eqb, leb→le, ltb→lt, eqb→eq, eqb-refl, not-T, T-not}
 use Rattle.model.specs.Counting.{every}
-use Rattle.model.specs.State.{Rules, State, base, edge, phi}
-use Rattle.model.specs.Bytes.{most, write}
+use Rattle.model.specs.Shape.{low}
+use Rattle.model.specs.State.{Rules, State, lowKind, base, edge, phi}
+use Rattle.model.specs.Bytes.{write}
 use Rattle.model.specs.Sound.{sound}
 use Rattle.model.specs.Valid.{Valid}
 use Rattle.model.proofs.Tests.{le?, true-T, eqb-yes, leb-yes, and-left, and-right, or-cases}
 use Rattle.model.proofs.Counting.{every-all}
 use Rattle.model.proofs.Limits.{phi-none}
+use Rattle.model.proofs.Shapes.{low-good}
 use Rattle.model.proofs.Bridge.{write-sound}
 
 -- if a then b, as a test
@@ -86,7 +88,7 @@ passed R s h =
       owned = and-right (every (phiTest R s) (s .n)) _ f;
     }
 
-module _ (R : Rules) (pos : (j : ℕ) → 1 ≤ R .thr j) (s : State) (some : 1 ≤ s .n) (few : s .n ≤ most)
+module _ (R : Rules) (pos : (j : ℕ) → 1 ≤ R .thr j) (s : State) (some : 1 ≤ s .n) (few : s .n ≤ s .kind .shape .most)
     (inside : (v w : ℕ) → T (s .owns v w) → (v < s .n) × (w < s .n)) (past : (v : ℕ) → s .n ≤ v → s .rank v ≡ 0)
     (alone : (v : ℕ) → s .n ≤ v → s .mate v ≡ v) (h : T (tested R s)) where
   p : Passed R s
@@ -139,6 +141,7 @@ module _ (R : Rules) (pos : (j : ℕ) → 1 ≤ R .thr j) (s : State) (some : 1 
 -- A rack that is laid down: ranks, mates and owners of n vertices, whatever is said of others.
 unfoldable pub laid : ℕ → (ℕ → ℕ) → (ℕ → ℕ) → (ℕ → ℕ → Bool) → State
 laid n rank mate owns = record {
+  kind = lowKind;
   n = n;
   rank = λ v. cond (leb n v) 0 (rank v);
   mate = λ v. cond (leb n v) v (mate v);
@@ -146,11 +149,11 @@ laid n rank mate owns = record {
 }
 
 -- It is sound, by a test of its vertices: a valid rack, and so are its bytes.
-pub laid-sound : (n : ℕ) (rank mate : ℕ → ℕ) (owns : ℕ → ℕ → Bool) → 1 ≤ n → n ≤ most → T (tested base (laid n rank mate owns))
-    → T (sound base (write (laid n rank mate owns)))
+pub laid-sound : (n : ℕ) (rank mate : ℕ → ℕ) (owns : ℕ → ℕ → Bool) → 1 ≤ n → n ≤ low .most → T (tested base (laid n rank mate owns))
+    → T (sound base low (write (laid n rank mate owns)))
 unfolding laid base
 laid-sound n rank mate owns some few h =
-    write-sound base (omega arith) (laid n rank mate owns)
+    write-sound base (laid n rank mate owns) low-good (omega arith)
     (tested-valid base (λ j. one-le-pow j 4 (omega arith)) (laid n rank mate owns) some few
     (λ v w t. (ltb→lt v n (and-left (ltb v n) _ t), ltb→lt w n (and-left (ltb w n) _ (and-right (ltb v n) _ t))))
     (λ v l. rw (leb-yes n v l) refl) (λ v l. rw (leb-yes n v l) refl) h)

@@ -4,6 +4,7 @@ use mathlib.Core.Bool.{Bool, true, false}
 use mathlib.Core.List.{List, [], _∷_}
 use Prim.Native.Nat.{ℕ, zero, suc}
 use lib.Dec.{eqb}
+use Rattle.model.specs.Shape.{Shape}
 use Rattle.model.specs.State.{edge, edgeCount}
 use Rattle.model.specs.Bytes.{read}
 use Rattle.model.specs.Change.{Change, number, withEdge, withoutEdge}
@@ -18,8 +19,8 @@ unfoldable pub links : Ledger → ℕ
 links l = edgeCount (l .n) (l .there)
 
 -- "both taken from the first rack: v-w is a link if bit w of row v or bit v of row w is set"
-unfoldable pub ledgerOf : List ℕ → Ledger
-ledgerOf bs = record { n = read bs .n; there = edge (read bs) }
+unfoldable pub ledgerOf : Shape → List ℕ → Ledger
+ledgerOf S bs = record { n = read S bs .n; there = edge (read S bs) }
 
 -- "For each change it goes through 7 to 12 in order; [..] The first that fits is the change's number"; "If none fits, its number is 0"
 unfoldable pub ledgerNumber : Ledger → Change → ℕ

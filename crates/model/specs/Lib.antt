@@ -2,6 +2,8 @@
 -- they lean on each other.
 pub mod Lists
 pub mod Counting
+pub mod Parts
+pub mod Shape
 pub mod State
 pub mod Bytes
 pub mod Sound

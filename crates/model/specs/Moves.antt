@@ -51,15 +51,15 @@ ownedBy u p mine owns v w = elim (eqb v u && p w) [ true ↦ mine | false ↦ el
 
 -- v's pair is parted; a free v stays as it is
 unfoldable pub part : ℕ → State → State
-part v s = record { n = s .n; rank = s .rank; mate = upd (upd (s .mate) (s .mate v) (s .mate v)) v v; owns = s .owns }
+part v s = record { kind = s .kind; n = s .n; rank = s .rank; mate = upd (upd (s .mate) (s .mate v) (s .mate v)) v v; owns = s .owns }
 
 -- "Rise of u to i: u takes ownership of every link to a board then below i. Other owners stand."
 unfoldable pub rise : ℕ → ℕ → State → State
-rise i u s = record { n = s .n; rank = upd (s .rank) u (suc i); mate = s .mate; owns = ownedBy u (near s u i) true (s .owns) }
+rise i u s = record { kind = s .kind; n = s .n; rank = upd (s .rank) u (suc i); mate = s .mate; owns = ownedBy u (near s u i) true (s .owns) }
 
 -- u and y are mates
 unfoldable pub marry : ℕ → ℕ → State → State
-marry u y s = record { n = s .n; rank = s .rank; mate = upd (upd (s .mate) u y) y u; owns = s .owns }
+marry u y s = record { kind = s .kind; n = s .n; rank = s .rank; mate = upd (upd (s .mate) u y) y u; owns = s .owns }
 
 -- "the chosen one stands at place (word mod k), places from 0. The next unused word is used.": the place among k, of which `used`
 -- words were used before
@@ -98,6 +98,7 @@ promote words i u r = draw words i u (lifted i u r)
 -- "v hands each owned link whose other end is also at level i to that end"
 unfoldable pub handOver : ℕ → ℕ → State → State
 handOver i v s = record {
+  kind = s .kind;
   n = s .n;
   rank = s .rank;
   mate = s .mate;
@@ -112,7 +113,7 @@ handed i v r = at r (handOver i v (r .state)) (leave v (r .queues))
 -- follows the fall."
 unfoldable pub fall : ℕ → ℕ → Run → Run
 fall i v r = let s = r .state in record {
-  state = record { n = s .n; rank = upd (s .rank) v i; mate = s .mate; owns = s .owns };
+  state = record { kind = s .kind; n = s .n; rank = upd (s .rank) v i; mate = s .mate; owns = s .owns };
   queues = join v i (r .queues);
   news = r .news;
   draws = r .draws;

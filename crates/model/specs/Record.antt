@@ -6,7 +6,7 @@ use mathlib.Core.List.{List, [], _∷_, _++_}
 use Prim.Native.Nat.{ℕ, _+_, _-_, _*_, _/_, _%_, _<_}
 use lib.Dec.{eqb, ltb}
 use Rattle.model.specs.Counting.{listed}
-use Rattle.model.specs.State.{Rules, State, edges, pairs, empty}
+use Rattle.model.specs.State.{Rules, State, lowKind, edges, pairs, empty}
 use Rattle.model.specs.Change.{Change, Answer, change}
 use Rattle.model.specs.Text.{bytes, decimal, texts}
 use Rattle.model.specs.Trace.{Trace, rackLine}
@@ -62,7 +62,7 @@ changesText R s (c ∷ cs) = let d = change R s c in answerLine (d .answer) ++ c
 
 -- "The record repeats line 1, has one line for each change, then the pairs by rising lower board, then the end line"
 unfoldable pub recordText : Rules → Trace → List ℕ
-recordText R t = rackLine (t .n) ++ changesText R (empty (t .n)) (t .changes)
+recordText R t = rackLine (t .n) ++ changesText R (empty lowKind (t .n)) (t .changes)
 
 -- W-201: "A trace text of no bytes now means that no rack was set: the record is the one line `(end (pairs 0))`"; W-202: "the blank paper has
 -- no mean", since there is no rack whose links it could be of

@@ -6,7 +6,8 @@ use mathlib.Core.List.{List, [], _++_}
 use Prim.Native.Nat.{ℕ, _≤_, _<_}
 use lib.Dec.{eqb}
 use lib.ListN.{length, take}
-use Rattle.model.specs.State.{Rules, empty}
+use Rattle.model.specs.Shape.{low}
+use Rattle.model.specs.State.{Rules, lowKind, empty}
 use Rattle.model.specs.Bytes.{write}
 use Rattle.model.specs.Sound.{sizeGood}
 use Rattle.model.specs.Calls.{sized}
@@ -39,18 +40,18 @@ spaceLength = 65536
 -- "The whole text is read before the rack is made, in the lent rack buffer, which holds the last state at the end."
 -- "Bytes past the record keep their values."
 pub data Ran (R : Rules) (rack text space : List ℕ) : RunAnswer → List ℕ → List ℕ → Type 0 where
-  rack-length : sized rack ≡ false → Ran R rack text space (turnedBack 1 0) rack space
-  text-long : sized rack ≡ true → longest < length text → Ran R rack text space (turnedBack 2 0) rack space
-  space-short : sized rack ≡ true → length text ≤ longest → length space < spaceLength → Ran R rack text space (turnedBack 3 0) rack space
+  rack-length : sized low rack ≡ false → Ran R rack text space (turnedBack 1 0) rack space
+  text-long : sized low rack ≡ true → longest < length text → Ran R rack text space (turnedBack 2 0) rack space
+  space-short : sized low rack ≡ true → length text ≤ longest → length space < spaceLength → Ran R rack text space (turnedBack 3 0) rack space
   -- W-201: "A trace text of no bytes now means that no rack was set: the record is the one line `(end (pairs 0))` and the rack buffer keeps its
   -- bytes. It is taken unless 1 or 3 fits": 2 can't fit it.
-  blank : sized rack ≡ true → text ≡ [] → spaceLength ≤ length space → Ran R rack text space (recorded blankRecord) rack (over 0 blankRecord space)
-  bad-line : {line : ℕ} → sized rack ≡ true → length text ≤ longest → spaceLength ≤ length space → FirstBad (linesOf text) line
+  blank : sized low rack ≡ true → text ≡ [] → spaceLength ≤ length space → Ran R rack text space (recorded blankRecord) rack (over 0 blankRecord space)
+  bad-line : {line : ℕ} → sized low rack ≡ true → length text ≤ longest → spaceLength ≤ length space → FirstBad (linesOf text) line
       → Ran R rack text space (turnedBack 4 line) rack space
-  bad-size : {t : Trace} → sized rack ≡ true → length text ≤ longest → spaceLength ≤ length space → Holds text t → sizeGood (t .n) ≡ false
+  bad-size : {t : Trace} → sized low rack ≡ true → length text ≤ longest → spaceLength ≤ length space → Holds text t → sizeGood low (t .n) ≡ false
       → Ran R rack text space (turnedBack 5 0) rack space
-  ran : {t : Trace} → sized rack ≡ true → length text ≤ longest → spaceLength ≤ length space → Holds text t → sizeGood (t .n) ≡ true
-      → Ran R rack text space (recorded (recordText R t)) (write (after R (empty (t .n)) (t .changes))) (over 0 (recordText R t) space)
+  ran : {t : Trace} → sized low rack ≡ true → length text ≤ longest → spaceLength ≤ length space → Holds text t → sizeGood low (t .n) ≡ true
+      → Ran R rack text space (recorded (recordText R t)) (write (after R (empty lowKind (t .n)) (t .changes))) (over 0 (recordText R t) space)
 
 -- `(bad K L)`, ended by a line feed
 unfoldable pub badLine : ℕ → ℕ → List ℕ

@@ -4,6 +4,7 @@ use mathlib.Core.Bool.{Bool, true, false, _&&_, _||_}
 use Prim.Native.Nat.{ℕ, suc, _^_}
 use lib.Dec.{leb, ltb, eqb}
 use Rattle.model.specs.Counting.{sum, count}
+use Rattle.model.specs.Shape.{Shape, low}
 
 -- what is fixed for every rack: the highest level, and the threshold of each level
 pub record Rules : Type 0 where
@@ -14,11 +15,20 @@ pub record Rules : Type 0 where
 unfoldable pub base : Rules
 base = record { top = 3; thr = λ j. 4 ^ j }
 
+-- What no change of a rack alters, beside n: its shape.
+pub record Kind : Type 0 where
+  pub shape : Shape
+
+-- the kind of document 01
+abbrev pub lowKind : Kind
+lowKind = record { shape = low }
+
 -- A rack: its n vertices are the numbers below n. The rank of a vertex is its level plus 1, so that a level below j is a rank of at
 -- most j. "Each board has [..] at most one mate; without one it is idle": a free vertex is its own mate here.
 -- "A link has one owner among its ends": `owns v w` says that v owns the edge v-w. From n on, ranks are 0, mates are the vertices
 -- themselves, and nothing is owned.
 pub record State : Type 0 where
+  pub kind : Kind
   pub n : ℕ
   pub rank : ℕ → ℕ
   pub mate : ℕ → ℕ
@@ -60,5 +70,5 @@ unfoldable pub pairs : State → ℕ
 pairs s = count (λ v. ltb v (s .mate v)) (s .n)
 
 -- the rack of n vertices with no edge
-unfoldable pub empty : ℕ → State
-empty n = record { n = n; rank = λ v. 0; mate = λ v. v; owns = λ v w. false }
+unfoldable pub empty : Kind → ℕ → State
+empty K n = record { kind = K; n = n; rank = λ v. 0; mate = λ v. v; owns = λ v w. false }

@@ -1,65 +1,69 @@
 -- The steps on a vertex's counts: what they leave, and what they make of an image. Assumes nothing.
-use mathlib.Core.Path.{_≡_, refl, sym, ap, _∙_}
+use mathlib.Core.Path.{_≡_, refl, sym, ap, _∙_, subst}
 use mathlib.Core.Logic.{_≢_}
 use mathlib.Core.Bool.{Bool, true, false}
 use mathlib.Core.List.{List}
-use Prim.Native.Nat.{ℕ, zero, suc, _+_, _*_, _≤_, _<_}
+use Prim.Native.Nat.{ℕ, zero, suc, _+_, _-_, _≤_, _<_}
 use native.Mathlib.Numerals.{add-one}
 use native.Mathlib.Omega.{arith}
-use lib.Seq.{getD-set-other}
-use Rattle.model.specs.Bytes.{Fields, phiAt, image}
+use Rattle.model.specs.Shape.{Shape, Good}
+use Rattle.model.specs.State.{State}
+use Rattle.model.specs.Bytes.{Fields, phiAt, image, fieldsOf}
 use Rattle.model.proofs.Fields.{phi-image}
 use Rattle.layout.specs.Setters.{setPhi}
+use Rattle.layout.proofs.Apart.{count-above}
 use Rattle.layout.proofs.Images.{image-ext, withPhi, setPhi-image}
 use Rattle.layout.proofs.Tables.{entry-other, entry-is}
+use Rattle.moves.specs.Proper.{Proper}
 use Rattle.moves.specs.Counts.{withCounts, step, CanStep, recounted}
 
 -- ---- one step
 
--- what there is room for in a byte there is room for in two, and it stays a byte
-pub step-wider : (more : Bool) (x : ℕ) → CanStep more 255 x → CanStep more 65535 x
-step-wider true x h = omega arith
-step-wider false x h = h
+-- a step that has room up to m has it up to more, and leads to no number past m
+pub step-wider : (more : Bool) {m k : ℕ} (x : ℕ) → m ≤ k → CanStep more m x → CanStep more k x
+step-wider true x l h = omega arith
+step-wider false x l h = h
 
-pub step-byte : (more : Bool) (x : ℕ) → x < 256 → CanStep more 255 x → step more x < 256
-step-byte true x l h = omega arith
-step-byte false x l h = omega arith
+pub step-below : (more : Bool) (m x : ℕ) → x < m → CanStep more (m - 1) x → step more x < m
+step-below true m x l h = omega arith
+step-below false m x l h = omega arith
 
 -- ---- on any bytes
 
-module _ (f : ℕ → ℕ) where
+module _ (S : Shape) (f : ℕ → ℕ) where
   -- one level more, at the upper end
   pub recounted-more : (bs : List ℕ) (w j k : ℕ)
-      → recounted f bs w j (suc k) ≡ setPhi (recounted f bs w j k) w (j + k) (f (phiAt (recounted f bs w j k) w (j + k)))
+      → recounted S f bs w j (suc k) ≡ setPhi S (recounted S f bs w j k) w (j + k) (f (phiAt S (recounted S f bs w j k) w (j + k)))
   unfolding recounted
   recounted-more bs w j zero = let e : j + 0 ≡ j = omega arith in rw e refl
   recounted-more bs w j (suc k) =
       let e : j + suc k ≡ suc j + k = omega arith in
-      rw e (recounted-more (setPhi bs w j (f (phiAt bs w j))) w (suc j) k)
+      rw e (recounted-more (setPhi S bs w j (f (phiAt S bs w j))) w (suc j) k)
 
   -- the counts above stay
-  pub recounted-above : (bs : List ℕ) (w j k x : ℕ) → j + k ≤ x → phiAt (recounted f bs w j k) w x ≡ phiAt bs w x
-  unfolding recounted phiAt setPhi
+  pub recounted-above : (bs : List ℕ) (w j k x : ℕ) → j + k ≤ x → phiAt S (recounted S f bs w j k) w x ≡ phiAt S bs w x
+  unfolding recounted
   recounted-above bs w j zero x l = refl
   recounted-above bs w j (suc k) x l =
-      recounted-above (setPhi bs w j (f (phiAt bs w j))) w (suc j) k x (omega arith)
-      ∙ getD-set-other bs (776 + (4 * w + j)) (776 + (4 * w + x)) (f (phiAt bs w j)) 0 (omega arith)
+      recounted-above (setPhi S bs w j (f (phiAt S bs w j))) w (suc j) k x (omega arith)
+      ∙ count-above S bs w j (f (phiAt S bs w j)) x (omega arith)
 
   -- a loop over the levels: the count that comes next is as it was, and one turn changes it
-  module _ (bs₀ : List ℕ) (w j : ℕ) {bs : List ℕ} (x : ℕ) (now : bs ≡ recounted f bs₀ w j x) where
-    pub next-count : phiAt bs w (j + x) ≡ phiAt bs₀ w (j + x)
-    next-count = ap (λ (b : List ℕ). phiAt b w (j + x)) now ∙ recounted-above bs₀ w j x (j + x) (omega arith)
+  module _ (bs₀ : List ℕ) (w j : ℕ) {bs : List ℕ} (x : ℕ) (now : bs ≡ recounted S f bs₀ w j x) where
+    pub next-count : phiAt S bs w (j + x) ≡ phiAt S bs₀ w (j + x)
+    next-count = ap (λ (b : List ℕ). phiAt S b w (j + x)) now ∙ recounted-above bs₀ w j x (j + x) (omega arith)
 
-    pub next-level : {next : List ℕ} (i y : ℕ) → i ≡ j + x → y ≡ f (phiAt bs w i) → next ≡ setPhi bs w i y → next ≡ recounted f bs₀ w j (x + 1)
+    pub next-level : {next : List ℕ} (i y : ℕ) → i ≡ j + x → y ≡ f (phiAt S bs w i) → next ≡ setPhi S bs w i y → next ≡ recounted S f bs₀ w j (x + 1)
     next-level i y e c put = rw add-one (cc (recounted-more bs₀ w j x, now, e, c, put))
 
 -- ---- on images
 
 -- counts that are the same at every place
-pub counts-ext : (F : Fields) (g : ℕ → ℕ → ℕ) → ((v x : ℕ) → g v x ≡ F .phi v x) → image F ≡ image (withCounts F g)
+pub counts-ext : (F : Fields) → Good (F .kind .shape) → (g : ℕ → ℕ → ℕ) → ((v x : ℕ) → g v x ≡ F .phi v x) → image F ≡ image (withCounts F g)
 unfolding withCounts
-counts-ext F g e =
-    image-ext F (withCounts F g) (record {
+counts-ext F good g e =
+    image-ext F (withCounts F g) good (record {
+      kind = refl;
       n = refl;
       edges = refl;
       rank = λ v l. refl;
@@ -69,24 +73,46 @@ counts-ext F g e =
     })
 
 -- g is the counts of F, but for y at the level j of w
-pub setCount-image : (F : Fields) (w j y : ℕ) (g : ℕ → ℕ → ℕ) → w < 256 → j < 4 → g w j ≡ y
-    → ((v x : ℕ) → (v ≡ w → x ≢ j) → g v x ≡ F .phi v x) → setPhi (image F) w j y ≡ image (withCounts F g)
+pub setCount-image : (F : Fields) → Good (F .kind .shape) → (w j y : ℕ) (g : ℕ → ℕ → ℕ) → w < F .kind .shape .most → j < F .kind .shape .levels
+    → g w j ≡ y → ((v x : ℕ) → (v ≡ w → x ≢ j) → g v x ≡ F .phi v x) → setPhi (F .kind .shape) (image F) w j y ≡ image (withCounts F g)
 unfolding withPhi withCounts
-setCount-image F w j y g l b on off =
-    setPhi-image F w j y l b ∙ counts-ext (withPhi F w j y) g (λ v x. entry-is (F .phi) w j y g v x on (off v x))
+setCount-image F good w j y g l b on off =
+    setPhi-image F good w j y l b ∙ counts-ext (withPhi F w j y) good g (λ v x. entry-is (F .phi) w j y g v x on (off v x))
 
 -- g is the counts of F, but for those that f makes at the levels of w from j up to j + k
-pub recounted-image : (f : ℕ → ℕ) (F : Fields) (w j k : ℕ) (g : ℕ → ℕ → ℕ) → w < 256 → j + k ≤ 4
-    → ((x : ℕ) → j ≤ x → x < j + k → g w x ≡ f (F .phi w x))
-    → ((v x : ℕ) → (v ≡ w → j ≤ x → x < j + k → ⊥) → g v x ≡ F .phi v x) → recounted f (image F) w j k ≡ image (withCounts F g)
+pub recounted-image : (f : ℕ → ℕ) (F : Fields) → Good (F .kind .shape) → (w j k : ℕ) (g : ℕ → ℕ → ℕ) → w < F .kind .shape .most
+    → j + k ≤ F .kind .shape .levels → ((x : ℕ) → j ≤ x → x < j + k → g w x ≡ f (F .phi w x))
+    → ((v x : ℕ) → (v ≡ w → j ≤ x → x < j + k → ⊥) → g v x ≡ F .phi v x) → recounted (F .kind .shape) f (image F) w j k ≡ image (withCounts F g)
 unfolding recounted withPhi withCounts
-recounted-image f F w j zero g l b on off = counts-ext F g (λ v x. off v x (λ e p q. omega arith))
-recounted-image f F w j (suc k) g l b on off =
+recounted-image f F good w j zero g l b on off = counts-ext F good g (λ v x. off v x (λ e p q. omega arith))
+recounted-image f F good w j (suc k) g l b on off =
+    let S : Shape = F .kind .shape in
     let y : ℕ = f (F .phi w j) in
-    let first : setPhi (image F) w j (f (phiAt (image F) w j)) ≡ image (withPhi F w j y) =
-    ap (λ (z : ℕ). setPhi (image F) w j (f z)) (phi-image F w j l (omega arith)) ∙ setPhi-image F w j y l (omega arith) in
-    ap (λ (bs : List ℕ). recounted f bs w (suc j) k) first
-    ∙ recounted-image f (withPhi F w j y) w (suc j) k g l (omega arith)
+    let first : setPhi S (image F) w j (f (phiAt S (image F) w j)) ≡ image (withPhi F w j y) =
+    ap (λ (z : ℕ). setPhi S (image F) w j (f z)) (phi-image F good w j l (omega arith)) ∙ setPhi-image F good w j y l (omega arith) in
+    ap (λ (bs : List ℕ). recounted S f bs w (suc j) k) first
+    ∙ recounted-image f (withPhi F w j y) good w (suc j) k g l (omega arith)
     (λ x p q. on x (omega arith) (omega arith) ∙ ap f (sym (entry-other (F .phi) w j y w x (λ e. omega arith))))
     (λ v x d. entry-is (F .phi) w j y g v x (on j (omega arith) (omega arith))
     (λ c. off v x (λ e p q. d e (omega (arith, c e)) (omega arith))))
+
+-- ---- on the bytes of a proper state, but for the counts
+
+module _ {S : Shape} (s : State) (p : Proper S s) (c : ℕ → ℕ → ℕ) where
+  pub setCount-proper : (w j y : ℕ) (g : ℕ → ℕ → ℕ) → w < S .most → j < S .levels → g w j ≡ y
+      → ((v x : ℕ) → (v ≡ w → x ≢ j) → g v x ≡ c v x)
+      → setPhi S (image (withCounts (fieldsOf s) c)) w j y ≡ image (withCounts (fieldsOf s) g)
+  unfolding withCounts fieldsOf
+  setCount-proper w j y g l b on off =
+      let F : Fields = withCounts (fieldsOf s) c in
+      subst (λ (T : Shape). w < T .most → j < T .levels → setPhi T (image F) w j y ≡ image (withCounts F g)) (p .shape)
+      (λ l b. setCount-image F (p .good) w j y g l b on off) l b
+
+  pub recounted-proper : (f : ℕ → ℕ) (w j k : ℕ) (g : ℕ → ℕ → ℕ) → w < S .most → j + k ≤ S .levels
+      → ((x : ℕ) → j ≤ x → x < j + k → g w x ≡ f (c w x)) → ((v x : ℕ) → (v ≡ w → j ≤ x → x < j + k → ⊥) → g v x ≡ c v x)
+      → recounted S f (image (withCounts (fieldsOf s) c)) w j k ≡ image (withCounts (fieldsOf s) g)
+  unfolding withCounts fieldsOf
+  recounted-proper f w j k g l b on off =
+      let F : Fields = withCounts (fieldsOf s) c in
+      subst (λ (T : Shape). w < T .most → j + k ≤ T .levels → recounted T f (image F) w j k ≡ image (withCounts F g)) (p .shape)
+      (λ l b. recounted-image f F (p .good) w j k g l b on off) l b

@@ -3,11 +3,12 @@ use mathlib.Core.Path.{_≡_, refl, sym, ap, _∙_, subst}
 use mathlib.Core.Logic.{_≢_, inl, inr}
 use mathlib.Core.Bool.{Bool, true, false}
 use mathlib.Core.List.{List}
-use Prim.Native.Nat.{ℕ, suc, _+_, _-_, _≤_, _<_}
+use Prim.Native.Nat.{ℕ, suc, _+_, _-_, _%_, _≤_, _<_}
 use native.Mathlib.Omega.{arith}
 use lib.Dec.{T, leb, leb→le}
 use lib.ListN.{length}
 use Rattle.model.specs.Counting.{upd}
+use Rattle.model.specs.Shape.{Shape, rackLength}
 use Rattle.model.specs.State.{base, State, edge, near, phi}
 use Rattle.model.specs.Bytes.{rankAt, phiAt, ownsAt, image, fieldsOf, read, write}
 use Rattle.model.proofs.Tests.{eq?, le?, and-right}
@@ -18,13 +19,13 @@ use Rattle.layout.specs.Setters.{Sized, setPhi}
 use Rattle.layout.specs.declared.walk.Cursor.{Cursor}
 use Rattle.layout.specs.Walks.{placeOf, Here, Stands, Further}
 use Rattle.layout.proofs.Said.{says-yes, says-no, says-by}
-use Rattle.layout.proofs.Walks.{further-same}
+use Rattle.layout.proofs.Walks.{row-whole, further-same}
 use Rattle.moves.specs.Proper.{Proper, Held, RowBelow}
 use Rattle.moves.specs.Counts.{withCounts, step, recounted, loweredCounts, raisedCounts}
-use Rattle.moves.proofs.Held.{held-sized, held-small, held-owns}
+use Rattle.moves.proofs.Held.{proper-few, held-good, held-sized, held-small, held-owns}
 use Rattle.layout.proofs.Reached.{reached, reached-here, reached-end, Came, came, stands-as, further-as}
 use Rattle.moves.proofs.Choices.{hit-says, hit-of, lowered-yes, lowered-no, raised-yes, raised-no}
-use Rattle.moves.proofs.CountSteps.{counts-ext, recounted-image, setCount-image}
+use Rattle.moves.proofs.CountSteps.{counts-ext, setCount-proper, recounted-proper}
 
 -- ---- bytes that are the writing of s but for the counts
 
@@ -35,38 +36,47 @@ pub counted-write : (s : State) (bs : List ℕ) → bs ≡ write s → Counted s
 unfolding write fieldsOf withCounts
 counted-write s bs e = e
 
-module _ (s : State) (g : ℕ → ℕ → ℕ) (bs : List ℕ) (e : Counted s g bs) where
-  pub counted-sized : Sized bs
-  counted-sized = ap length e ∙ image-length (withCounts (fieldsOf s) g)
-
-  pub counted-rank : (v : ℕ) → v < 256 → rankAt bs v ≡ s .rank v
+module _ {S : Shape} (s : State) (p : Proper S s) (g : ℕ → ℕ → ℕ) (bs : List ℕ) (e : Counted s g bs) where
+  pub counted-sized : Sized S bs
   unfolding withCounts fieldsOf
-  counted-rank v l = ap (λ (x : List ℕ). rankAt x v) e ∙ rank-image (withCounts (fieldsOf s) g) v l
+  counted-sized = ap length e ∙ image-length (withCounts (fieldsOf s) g) (p .good) ∙ ap (λ (T : Shape). rackLength T) (p .shape)
 
-  pub counted-phi : (v j : ℕ) → v < 256 → j < 4 → phiAt bs v j ≡ g v j
-  unfolding withCounts
-  counted-phi v j l k = ap (λ (x : List ℕ). phiAt x v j) e ∙ phi-image (withCounts (fieldsOf s) g) v j l k
-
-  pub counted-owns : (v w : ℕ) → v < 256 → w < 256 → ownsAt bs v w ≡ s .owns v w
+  pub counted-rank : (v : ℕ) → v < S .most → rankAt bs v ≡ s .rank v
   unfolding withCounts fieldsOf
-  counted-owns v w l k = ap (λ (x : List ℕ). ownsAt x v w) e ∙ owns-image (withCounts (fieldsOf s) g) v w l k
+  counted-rank v l =
+      ap (λ (x : List ℕ). rankAt x v) e
+      ∙ rank-image (withCounts (fieldsOf s) g) (p .good) v (omega (arith, ap (λ (T : Shape). T .most) (p .shape)))
+
+  pub counted-phi : (v j : ℕ) → v < S .most → j < S .levels → phiAt S bs v j ≡ g v j
+  unfolding withCounts fieldsOf
+  counted-phi v j l k =
+      ap (λ (x : List ℕ). phiAt S x v j) e
+      ∙ subst (λ (T : Shape). v < T .most → j < T .levels → phiAt T (image (withCounts (fieldsOf s) g)) v j ≡ g v j) (p .shape)
+      (phi-image (withCounts (fieldsOf s) g) (p .good) v j) l k
+
+  pub counted-owns : (v w : ℕ) → v < S .most → w < S .most → ownsAt S bs v w ≡ s .owns v w
+  unfolding withCounts fieldsOf
+  counted-owns v w l k =
+      ap (λ (x : List ℕ). ownsAt S x v w) e
+      ∙ subst (λ (T : Shape). v < T .most → w < T .most → ownsAt T (image (withCounts (fieldsOf s) g)) v w ≡ s .owns v w) (p .shape)
+      (owns-image (withCounts (fieldsOf s) g) (p .good) v w) l k
 
 -- ---- the walk
 
 -- the vertices before the place that the walk has reached have their new counts, the others the old ones, and u owns the edge to that place
-pub record RowCounted (s : State) (new : ℕ → ℕ → ℕ) (u : ℕ) (bs : List ℕ) (c : Cursor) : Type 0 where
+pub record RowCounted (S : Shape) (s : State) (new : ℕ → ℕ → ℕ) (u : ℕ) (bs : List ℕ) (c : Cursor) : Type 0 where
   pub counts : ℕ → ℕ → ℕ
   pub is : Counted s counts bs
-  pub done : (x j : ℕ) → x < reached c → counts x j ≡ new x j
-  pub left : (x j : ℕ) → reached c ≤ x → counts x j ≡ phi s x j
-  pub here : 0 < c .rest → Here (s .owns u) (reached c) c
+  pub done : (x j : ℕ) → x < reached (S .most) c → counts x j ≡ new x j
+  pub left : (x j : ℕ) → reached (S .most) c ≤ x → counts x j ≡ phi s x j
+  pub here : 0 < c .rest → Here (S .most) (s .owns u) (reached (S .most) c) c
 
 -- the new counts change nothing where u owns no edge
 abbrev pub Quiet : State → (ℕ → ℕ → ℕ) → ℕ → Type 0
 Quiet s new u = (x j : ℕ) → (T (s .owns u x) → ⊥) → new x j ≡ phi s x j
 
-module _ (s : State) (new : ℕ → ℕ → ℕ) (u : ℕ) (quiet : Quiet s new u) where
-  pub walk-start : (bs : List ℕ) (r : Cursor) → bs ≡ write s → Came (s .owns u) 0 r → RowCounted s new u bs r
+module _ {S : Shape} (s : State) (p : Proper S s) (new : ℕ → ℕ → ℕ) (u : ℕ) (quiet : Quiet s new u) where
+  pub walk-start : (bs : List ℕ) (r : Cursor) → bs ≡ write s → Came (S .most) (s .owns u) 0 r → RowCounted S s new u bs r
   walk-start bs r e n =
       record {
         counts = phi s;
@@ -77,8 +87,8 @@ module _ (s : State) (new : ℕ → ℕ → ℕ) (u : ℕ) (quiet : Quiet s new 
       }
 
   -- one vertex more, and on to the next
-  pub walk-step : (bs : List ℕ) (c : Cursor) (k : RowCounted s new u bs c) (w : ℕ) → w ≡ reached c → (next : List ℕ) (r : Cursor)
-      → Counted s (upd (k .counts) w (new w)) next → Came (s .owns u) (suc w) r → RowCounted s new u next r
+  pub walk-step : (bs : List ℕ) (c : Cursor) (k : RowCounted S s new u bs c) (w : ℕ) → w ≡ reached (S .most) c → (next : List ℕ) (r : Cursor)
+      → Counted s (upd (k .counts) w (new w)) next → Came (S .most) (s .owns u) (suc w) r → RowCounted S s new u next r
   walk-step bs c k w at next r e n =
       let other : (x j : ℕ) → x ≢ w → upd (k .counts) w (new w) x j ≡ k .counts x j =
       λ x j d. ap (λ (f : ℕ → ℕ). f j) (upd-other (k .counts) w (new w) x d) in
@@ -97,59 +107,65 @@ module _ (s : State) (new : ℕ → ℕ → ℕ) (u : ℕ) (quiet : Quiet s new 
       }
 
   -- the row is walked
-  pub walk-end : Proper s → (bs : List ℕ) (c : Cursor) → c .rest ≡ 0 → RowCounted s new u bs c → Counted s new bs
-  unfolding withCounts
-  walk-end p bs c z k =
-      k .is ∙ counts-ext (withCounts (fieldsOf s) (k .counts)) new (λ x j. elim (le? (reached c) x) [
-        | inl b ↦ quiet x j (λ t. omega (arith, reached-end c z, p .few, p .inside u x t .1)) ∙ sym (k .left x j b)
+  pub walk-end : (bs : List ℕ) (c : Cursor) → c .rest ≡ 0 → RowCounted S s new u bs c → Counted s new bs
+  unfolding withCounts fieldsOf
+  walk-end bs c z k =
+      k .is ∙ counts-ext (withCounts (fieldsOf s) (k .counts)) (p .good) new (λ x j. elim (le? (reached (S .most) c) x) [
+        | inl b ↦ quiet x j (λ t. omega (arith, reached-end (S .most) c z, proper-few p, p .inside u x t .1)) ∙ sym (k .left x j b)
         | inr b ↦ sym (k .done x j b)
       ])
 
 -- a walk along u's row of a held rack, as its loop goes
-pub record Walk (bs₀ : List ℕ) (new : ℕ → ℕ → ℕ) (u : ℕ) : Type 0 where
-  pub held : Held bs₀
-  pub inside : u < read bs₀ .n
-  pub quiet : Quiet (read bs₀) new u
+pub record Walk (S : Shape) (bs₀ : List ℕ) (new : ℕ → ℕ → ℕ) (u : ℕ) : Type 0 where
+  pub held : Held S bs₀
+  pub inside : u < read S bs₀ .n
+  pub quiet : Quiet (read S bs₀) new u
 
-module _ {bs₀ : List ℕ} {new : ℕ → ℕ → ℕ} {u : ℕ} (W : Walk bs₀ new u) where
-  pub u-small : u < 256
+module _ {S : Shape} {bs₀ : List ℕ} {new : ℕ → ℕ → ℕ} {u : ℕ} (W : Walk S bs₀ new u) where
+  pub u-small : u < S .most
   u-small = held-small (W .held) u (W .inside)
 
-  pub came-first : {r : Cursor} → Stands (ownsAt bs₀ u) 0 r → Came (read bs₀ .owns u) 0 r
-  came-first n = came (omega arith) (stands-as (λ w l. held-owns (W .held) u w u-small l) n)
+  whole : S .most % 64 ≡ 0
+  whole = row-whole (held-good (W .held))
 
-  pub row-starts : {r : Cursor} → Stands (ownsAt bs₀ u) 0 r → RowCounted (read bs₀) new u bs₀ r
-  row-starts {r} n = walk-start (read bs₀) new u (W .quiet) bs₀ r (W .held .written) (came-first n)
+  pub came-first : {r : Cursor} → Stands (S .most) (ownsAt S bs₀ u) 0 r → Came (S .most) (read S bs₀ .owns u) 0 r
+  came-first n = came (omega arith) (stands-as whole (λ w l. held-owns (W .held) u w u-small l) n)
 
-  module _ {bs : List ℕ} {c : Cursor} (k : RowCounted (read bs₀) new u bs c) where
-    pub w-sized : Sized bs
-    w-sized = counted-sized (read bs₀) (k .counts) bs (k .is)
+  pub row-starts : {r : Cursor} → Stands (S .most) (ownsAt S bs₀ u) 0 r → RowCounted S (read S bs₀) new u bs₀ r
+  row-starts {r} n = walk-start (read S bs₀) (W .held .proper) new u (W .quiet) bs₀ r (W .held .written) (came-first n)
+
+  module _ {bs : List ℕ} {c : Cursor} (k : RowCounted S (read S bs₀) new u bs c) where
+    pub w-sized : Sized S bs
+    w-sized = counted-sized (read S bs₀) (W .held .proper) (k .counts) bs (k .is)
 
     pub same-size : length bs ≡ length bs₀
     same-size = w-sized ∙ sym (held-sized (W .held))
 
-    pub row-ends : c .rest ≡ 0 → Counted (read bs₀) new bs
-    row-ends z = walk-end (read bs₀) new u (W .quiet) (W .held .proper) bs c z k
+    pub row-ends : c .rest ≡ 0 → Counted (read S bs₀) new bs
+    row-ends z = walk-end (read S bs₀) (W .held .proper) new u (W .quiet) bs c z k
 
     -- a turn, at w
     module _ {w : ℕ} (some : 0 < c .rest) (place : w ≡ placeOf (c .word) (c .rest)) where
-      pub w-reached : w ≡ reached c
-      w-reached = place ∙ sym (reached-here c some)
+      pub w-reached : w ≡ reached (S .most) c
+      w-reached = place ∙ sym (reached-here (S .most) c some)
 
-      pub w-owned : T (read bs₀ .owns u w)
-      w-owned = subst (λ (x : ℕ). T (read bs₀ .owns u x)) (sym place) (k .here some .is)
+      pub w-owned : T (read S bs₀ .owns u w)
+      w-owned = subst (λ (x : ℕ). T (read S bs₀ .owns u x)) (sym place) (k .here some .is)
 
-      pub w-small : w < 256
-      w-small = omega (arith, W .held .proper .inside u w w-owned .1, W .held .proper .few)
+      pub w-small : w < S .most
+      w-small = held-small (W .held) w (W .held .proper .inside u w w-owned .1)
 
-      module _ {next : List ℕ} {r : Cursor} (e : Counted (read bs₀) (upd (k .counts) w (new w)) next) (g : Further (ownsAt next u) c r) where
-        pub came-next : Came (read bs₀ .owns u) (suc w) r
+      module _ {next : List ℕ} {r : Cursor} (e : Counted (read S bs₀) (upd (k .counts) w (new w)) next)
+          (g : Further (S .most) (ownsAt S next u) c r) where
+        pub came-next : Came (S .most) (read S bs₀ .owns u) (suc w) r
         came-next =
-            let s = further-same some (k .here some) (further-as (λ x l. counted-owns (read bs₀) _ next e u x u-small l) g) in
-            came w-small (subst (λ (x : ℕ). Stands (read bs₀ .owns u) (suc x) r) (sym place) s)
+            let same : (x : ℕ) → x < S .most → ownsAt S next u x ≡ read S bs₀ .owns u x =
+            λ x l. counted-owns (read S bs₀) (W .held .proper) _ next e u x u-small l in
+            let s = further-same whole some (k .here some) (further-as whole same g) in
+            came w-small (subst (λ (x : ℕ). Stands (S .most) (read S bs₀ .owns u) (suc x) r) (sym place) s)
 
-        pub row-goes-on : RowCounted (read bs₀) new u next r
-        row-goes-on = walk-step (read bs₀) new u (W .quiet) bs c k w w-reached next r e came-next
+        pub row-goes-on : RowCounted S (read S bs₀) new u next r
+        row-goes-on = walk-step (read S bs₀) (W .held .proper) new u (W .quiet) bs c k w w-reached next r e came-next
 
 -- a row of counts put in at w
 row-at : (f : ℕ → ℕ → ℕ) (w : ℕ) (row : ℕ → ℕ) (j : ℕ) → upd f w row w j ≡ row j
@@ -166,50 +182,49 @@ row-kept f w row x j d = elim (eq? x w) [
 pub raised-quiet : (s : State) (i v : ℕ) → Quiet s (raisedCounts s i v) v
 raised-quiet s i v x j d = raised-no s i v x j (λ t. absurd (d t))
 
--- the count that comes next, raised
-pub raised-is : (s : State) (i v : ℕ) (bs : List ℕ) (c : Cursor) (k : RowCounted s (raisedCounts s i v) v bs c) (w : ℕ) (y : ℕ)
-    → w ≡ reached c → w < 256 → i < 4 → T (s .owns v w) → y ≡ phiAt bs w i → y + 1 ≡ raisedCounts s i v w i
-raised-is s i v bs c k w y at l b t e =
-    omega (arith, e, counted-phi s (k .counts) bs (k .is) w i l b, k .left w i (omega arith), raised-yes s i v w i t refl)
+module _ {S : Shape} (s : State) (p : Proper S s) (i v : ℕ) (bs : List ℕ) (c : Cursor) (k : RowCounted S s (raisedCounts s i v) v bs c) where
+  -- the count that comes next, raised
+  pub raised-is : (w : ℕ) (y : ℕ) → w ≡ reached (S .most) c → w < S .most → i < S .levels → T (s .owns v w) → y ≡ phiAt S bs w i
+      → y + 1 ≡ raisedCounts s i v w i
+  raised-is w y at l b t e =
+      omega (arith, e, counted-phi s p (k .counts) bs (k .is) w i l b, k .left w i (omega arith), raised-yes s i v w i t refl)
 
--- one count raised
-pub raised-turn : (s : State) (i v : ℕ) (bs : List ℕ) (c : Cursor) (k : RowCounted s (raisedCounts s i v) v bs c) (w : ℕ) (next : List ℕ) (y : ℕ)
-    → w ≡ reached c → w < 256 → i < 4 → y + 1 ≡ raisedCounts s i v w i → next ≡ setPhi bs w i (y + 1)
-    → Counted s (upd (k .counts) w (raisedCounts s i v w)) next
-unfolding withCounts
-raised-turn s i v bs c k w next y at l b e f =
-    let new : ℕ → ℕ = raisedCounts s i v w in
-    f ∙ ap (λ (x : List ℕ). setPhi x w i (y + 1)) (k .is)
-    ∙ setCount-image (withCounts (fieldsOf s) (k .counts)) w i (y + 1) (upd (k .counts) w new) l b (row-at (k .counts) w new i ∙ sym e)
-    (λ x j d. row-kept (k .counts) w new x j (λ p. raised-no s i v w j (λ _. d p) ∙ sym (k .left w j (omega arith))))
+  -- one count raised
+  pub raised-turn : (w : ℕ) (next : List ℕ) (y : ℕ) → w ≡ reached (S .most) c → w < S .most → i < S .levels → y + 1 ≡ raisedCounts s i v w i
+      → next ≡ setPhi S bs w i (y + 1) → Counted s (upd (k .counts) w (raisedCounts s i v w)) next
+  raised-turn w next y at l b e f =
+      let new : ℕ → ℕ = raisedCounts s i v w in
+      f ∙ ap (λ (x : List ℕ). setPhi S x w i (y + 1)) (k .is)
+      ∙ setCount-proper s p (k .counts) w i (y + 1) (upd (k .counts) w new) l b (row-at (k .counts) w new i ∙ sym e)
+      (λ x j d. row-kept (k .counts) w new x j (λ q. raised-no s i v w j (λ _. d q) ∙ sym (k .left w j (omega arith))))
 
 -- the raised counts of the vertices below m to which v owns an edge are below the threshold
 abbrev pub LowTo : State → ℕ → ℕ → ℕ → Type 0
 LowTo s i v m = (w : ℕ) → w < m → T (s .owns v w) → raisedCounts s i v w i < base .thr i
 
-module _ (s : State) (i v : ℕ) where
-  pub low-start : {r : Cursor} → Came (s .owns v) 0 r → Says true (LowTo s i v (reached r))
+module _ {most : ℕ} (s : State) (i v : ℕ) where
+  pub low-start : {r : Cursor} → Came most (s .owns v) 0 r → Says true (LowTo s i v (reached most r))
   low-start n = says-yes (λ w l t. absurd (n .none w (omega arith) l t))
 
   -- a vertex more
-  module _ {b : Bool} {r : Cursor} (m w : ℕ) (at : w ≡ m) (S : Says b (LowTo s i v m)) (n : Came (s .owns v) (suc w) r) where
-    pub low-yes : raisedCounts s i v w i < base .thr i → Says b (LowTo s i v (reached r))
+  module _ {b : Bool} {r : Cursor} (m w : ℕ) (at : w ≡ m) (said : Says b (LowTo s i v m)) (n : Came most (s .owns v) (suc w) r) where
+    pub low-yes : raisedCounts s i v w i < base .thr i → Says b (LowTo s i v (reached most r))
     low-yes h =
         says-by
         (λ low x l t. elim (eq? x w) [
           | inl e ↦ subst (λ (y : ℕ). raisedCounts s i v y i < base .thr i) (sym e) h
           | inr d ↦ elim (le? x w) [ inl p ↦ low x (omega arith) t | inr p ↦ absurd (n .none x p l t) ]
         ])
-        (λ low x l t. low x (omega (arith, n .after)) t) S
+        (λ low x l t. low x (omega (arith, n .after)) t) said
 
-    pub low-no : T (s .owns v w) → base .thr i ≤ raisedCounts s i v w i → Says false (LowTo s i v (reached r))
+    pub low-no : T (s .owns v w) → base .thr i ≤ raisedCounts s i v w i → Says false (LowTo s i v (reached most r))
     low-no t h = says-no (λ low. omega (arith, low w (n .after) t))
 
-  -- the row is walked
-  pub low-end : Proper s → (c : Cursor) {b : Bool} → c .rest ≡ 0 → Says b (LowTo s i v (reached c))
-      → Says b ((w : ℕ) → T (s .owns v w) → raisedCounts s i v w i < base .thr i)
-  low-end p c z S =
-      says-by (λ low w t. low w (omega (arith, reached-end c z, p .few, p .inside v w t .1)) t) (λ low w l t. low w t) S
+-- the row is walked
+pub low-end : {S : Shape} (s : State) → Proper S s → (i v : ℕ) (c : Cursor) {b : Bool} → c .rest ≡ 0 → Says b (LowTo s i v (reached (S .most) c))
+    → Says b ((w : ℕ) → T (s .owns v w) → raisedCounts s i v w i < base .thr i)
+low-end {S} s p i v c z said =
+    says-by (λ low w t. low w (omega (arith, reached-end (S .most) c z, proper-few p, p .inside v w t .1)) t) (λ low w l t. low w t) said
 
 -- ---- counts that are lowered from the higher of two ranks up to i
 
@@ -222,15 +237,15 @@ pub lowered-quiet : (s : State) (i u : ℕ) → Quiet s (loweredCounts s i u) u
 lowered-quiet s i u x j d = lowered-no s i u x j (λ t. d (hit-says s i u x j t .owned))
 
 -- the counts of one vertex lowered
-pub lowered-turn : (s : State) (i u : ℕ) (bs : List ℕ) (c : Cursor) (k : RowCounted s (loweredCounts s i u) u bs c) (w : ℕ) (next : List ℕ)
-    → w ≡ reached c → w < 256 → i < 4 → T (s .owns u w) → (j : ℕ) → s .rank u ≤ j → s .rank w ≤ j → ((x : ℕ) → s .rank u ≤ x → s .rank w ≤ x → j ≤ x)
-    → j ≤ i → next ≡ recounted (step false) bs w j (i + 1 - j) → Counted s (upd (k .counts) w (loweredCounts s i u w)) next
-unfolding withCounts
-lowered-turn s i u bs c k w next at l b t j h₁ h₂ least h₃ f =
+pub lowered-turn : {S : Shape} (s : State) → Proper S s → (i u : ℕ) (bs : List ℕ) (c : Cursor) (k : RowCounted S s (loweredCounts s i u) u bs c)
+    (w : ℕ) (next : List ℕ) → w ≡ reached (S .most) c → w < S .most → i < S .levels → T (s .owns u w) → (j : ℕ) → s .rank u ≤ j → s .rank w ≤ j
+    → ((x : ℕ) → s .rank u ≤ x → s .rank w ≤ x → j ≤ x) → j ≤ i → next ≡ recounted S (step false) bs w j (i + 1 - j)
+    → Counted s (upd (k .counts) w (loweredCounts s i u w)) next
+lowered-turn {S} s p i u bs c k w next at l b t j h₁ h₂ least h₃ f =
     let new : ℕ → ℕ = loweredCounts s i u w in
     let old : (x : ℕ) → k .counts w x ≡ phi s w x = λ x. k .left w x (omega arith) in
-    f ∙ ap (λ (x : List ℕ). recounted (step false) x w j (i + 1 - j)) (k .is)
-    ∙ recounted-image (step false) (withCounts (fieldsOf s) (k .counts)) w j (i + 1 - j) (upd (k .counts) w new) l (omega arith)
+    f ∙ ap (λ (x : List ℕ). recounted S (step false) x w j (i + 1 - j)) (k .is)
+    ∙ recounted-proper s p (k .counts) (step false) w j (i + 1 - j) (upd (k .counts) w new) l (omega arith)
     (λ x p q. row-at (k .counts) w new x ∙ lowered-yes s i u w x (hit-of s i u w x t (omega arith) (omega arith) (omega arith))
     ∙ ap (λ (z : ℕ). z - 1) (sym (old x)))
     (λ v x d. row-kept (k .counts) w new v x

@@ -6,6 +6,7 @@ use mathlib.Core.Bool.{Bool}
 use Prim.Native.Nat.{ℕ, _≤_}
 use native.Mathlib.Omega.{arith}
 use lib.Dec.{T, leb, leb→le, le→leb}
+use Rattle.model.specs.Shape.{Shape}
 use Rattle.model.specs.State.{State, edge, near}
 use Rattle.model.specs.Moves.{ownedBy}
 use Rattle.model.specs.Change.{reown}
@@ -47,7 +48,7 @@ module _ (s : State) where
 abbrev flat : Marks
 flat = record { rank = λ v. 0; mate = λ v. v }
 
-module _ (s : State) (p : Proper s) where
+module _ {S : Shape} (s : State) (p : Proper S s) where
   pub edge-loop : (v : ℕ) → T (edge s v v) → ⊥
   edge-loop v t = elim (edge-cases s v v t) [ inl o ↦ p .no-loop v o | inr o ↦ p .no-loop v o ]
 
@@ -69,9 +70,12 @@ module _ (s : State) (p : Proper s) where
     unfolding edge reown
     turned-edge v w = ap (λ (f : ℕ → ℕ → Bool). f v w) (owners-edges (s .n) (edge s) (ownedBy u q d (s .owns)) flat simple turned-flat)
 
-    pub turned-proper : Proper (reown s (ownedBy u q d (s .owns)))
+    pub turned-proper : Proper S (reown s (ownedBy u q d (s .owns)))
     unfolding reown
     turned-proper = record {
+      shape = p .shape;
+      good = p .good;
+      room = p .room;
       few = p .few;
       inside = λ v w t. edge-within s (p .inside) v w (turned-flat .edges v w t);
       past-rank = p .past-rank;

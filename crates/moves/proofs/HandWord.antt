@@ -11,6 +11,7 @@ use lib.ListN.{length}
 use lib.Bits.{bitAnd}
 use lib.Count.{trailingZeros}
 use Rattle.model.specs.Counting.{count}
+use Rattle.model.specs.Shape.{Shape, Good}
 use Rattle.model.specs.State.{State}
 use Rattle.model.specs.Bytes.{rankAt, image, write}
 use Rattle.model.specs.Moves.{ownedBy}
@@ -49,12 +50,13 @@ pub record Handing (s : State) (i v k h₀ b₀ : ℕ) (bs : List ℕ) (h b g x 
   pub done : Done s i v k h₀ b₀ bs h b g at
 
 module _ {s : State} {i v k h₀ b₀ : ℕ} {bs : List ℕ} {h b g m : ℕ} (d : Done s i v k h₀ b₀ bs h b g m) where
-  pub done-sized : Sized bs
-  done-sized = ap length (d .bytes) ∙ image-length (ownersOf s (gains v (going s i v k m) (s .owns)))
-
-  pub done-rank : (w : ℕ) → w < 256 → rankAt bs w ≡ s .rank w
+  pub done-sized : Good (s .kind .shape) → Sized (s .kind .shape) bs
   unfolding ownersOf
-  done-rank w l = ap (λ (x : List ℕ). rankAt x w) (d .bytes) ∙ rank-image (ownersOf s (gains v (going s i v k m) (s .owns))) w l
+  done-sized good = ap length (d .bytes) ∙ image-length (ownersOf s (gains v (going s i v k m) (s .owns))) good
+
+  pub done-rank : Good (s .kind .shape) → (w : ℕ) → w < s .kind .shape .most → rankAt bs w ≡ s .rank w
+  unfolding ownersOf
+  done-rank good w l = ap (λ (x : List ℕ). rankAt x w) (d .bytes) ∙ rank-image (ownersOf s (gains v (going s i v k m) (s .owns))) good w l
 
   -- the same edges go before place t, where v owns none between
   done-skip : (t : ℕ) → m ≤ t → ((j : ℕ) → m ≤ j → j < t → T (s .owns v (64 * k + j)) → ⊥) → Done s i v k h₀ b₀ bs h b g t
@@ -78,15 +80,16 @@ module _ {s : State} {i v k h₀ b₀ : ℕ} {bs : List ℕ} {h b g m : ℕ} (d 
 
 -- an edge passes
 module _ {s : State} {i v k h₀ b₀ : ℕ} {bs : List ℕ} {h b g t : ℕ} (d : Done s i v k h₀ b₀ bs h b g t) (owned : T (s .owns v (64 * k + t))) where
-  pub done-yes : v < 256 → 64 * k + t < 256 → s .rank (64 * k + t) ≡ suc i → {cs : List ℕ} → cs ≡ own bs (64 * k + t) v
+  pub done-yes : Good (s .kind .shape) → v < s .kind .shape .most → 64 * k + t < s .kind .shape .most → s .rank (64 * k + t) ≡ suc i
+      → {cs : List ℕ} → cs ≡ own (s .kind .shape) bs (64 * k + t) v
       → {h′ b′ : ℕ} → h′ ≡ suc h → b′ ≡ b → Done s i v k h₀ b₀ cs h′ b′ g (suc t)
-  done-yes l c e {cs} q more same =
+  done-yes good l c e {cs} q more same =
       let w : ℕ = 64 * k + t in
       let goes-now : T (sameLevel s i v w) = same-of s i v w owned e in
       let no-stay : T (stays s i v k t) → ⊥ = λ u. other-is s i v w u .1 e in
       record {
-        bytes = q ∙ ap (λ (x : List ℕ). own x w v) (d .bytes)
-            ∙ own-gains s v w (going s i v k t) (going s i v k (suc t)) l c (going-of s i v k (suc t) w goes-now (omega arith) (omega arith))
+        bytes = q ∙ ap (λ (x : List ℕ). own (s .kind .shape) x w v) (d .bytes)
+            ∙ own-gains s good v w (going s i v k t) (going s i v k (suc t)) l c (going-of s i v k (suc t) w goes-now (omega arith) (omega arith))
             (λ x u. let r = going-is s i v k t x u in going-of s i v k (suc t) x (r .0) (r .1) (omega (arith, r .2)))
             (λ x u n. let r = going-is s i v k (suc t) x u in going-of s i v k t x (r .0) (r .1) (omega (arith, r .2)));
         handed = omega (arith, more, d .handed, count-suc (goes s i v k) t, bit-yes (goes s i v k t) goes-now);
@@ -114,7 +117,7 @@ module _ {s : State} {i v k h₀ b₀ : ℕ} {bs : List ℕ} {h b g t : ℕ} (d 
 
 -- ---- the walk
 
-module _ {s : State} (p : Proper s) {i v k : ℕ} where
+module _ {S : Shape} {s : State} (p : Proper S s) {i v k : ℕ} where
   pub handing-start : (h b : ℕ) {bs : List ℕ} {x : ℕ} → bs ≡ write s → Rest (λ j. s .owns v (64 * k + j)) 0 x → Handing s i v k h b bs h b 0 x
   handing-start h b e r = record {
     at = 0;
@@ -157,12 +160,14 @@ module _ {s : State} (p : Proper s) {i v k : ℕ} where
     handing-done : x ≡ 0 → Done s i v k h₀ b₀ bs h b g 64
     handing-done z = done-skip (G .done) 64 (G .few) (rest-end (G .rest) z)
 
-    pub handing-bytes : x ≡ 0 → v < s .n → 64 * k < 256 → setWord bs v k g ≡ write (handedIn (inWord k 64) i v s)
+    pub handing-bytes : x ≡ 0 → v < s .n → 64 * k < s .kind .shape .most
+        → setWord (s .kind .shape) bs v k g ≡ write (handedIn (inWord k 64) i v s)
     unfolding handedIn going
     handing-bytes z l m =
         let d = handing-done z in
-        ap (λ (cs : List ℕ). setWord cs v k g) (d .bytes) ∙ word-gone s p i v k g (omega (arith, p .few)) m (d .got .fits) (d .got .same)
-        ∙ owners-write s (ownedBy v (going s i v k 64) false (s .owns))
+        ap (λ (cs : List ℕ). setWord (s .kind .shape) cs v k g) (d .bytes)
+        ∙ word-gone s p i v k g (omega (arith, p .few)) m (d .got .fits) (d .got .same)
+        ∙ owners-write s (p .good) (ownedBy v (going s i v k 64) false (s .owns))
         (λ a c. turned-edge s p v (going s i v k 64) false (λ w u. edge-of s v w (same-is s i v w (and-left (sameLevel s i v w) _ u) .0)) a c)
 
     pub handing-numbers : x ≡ 0 → (h ≡ h₀ + count (goes s i v k) 64) × (b ≡ b₀ + count (stays s i v k) 64)

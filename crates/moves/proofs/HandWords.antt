@@ -7,8 +7,9 @@ use Prim.Native.Nat.{ℕ, suc, _+_, _*_, _≤_, _<_}
 use native.Mathlib.Omega.{arith}
 use lib.Dec.{T, eqb, ltb}
 use Rattle.model.specs.Counting.{count}
+use Rattle.model.specs.Shape.{Shape}
 use Rattle.model.specs.State.{State, near, below}
-use Rattle.model.specs.Bytes.{most, read, write}
+use Rattle.model.specs.Bytes.{read, write}
 use Rattle.model.specs.Moves.{handOver}
 use Rattle.model.specs.Change.{reown}
 use Rattle.model.proofs.Tests.{le?, bool-ext, and-intro, and-left, and-right}
@@ -17,6 +18,7 @@ use Rattle.model.proofs.Prefix.{count-zero, count-add, count-ext, count-skip}
 use Rattle.theory.specs.Handing.{handedOn, Parts}
 use Rattle.theory.proofs.Handing.{parts}
 use Rattle.theory.proofs.HandLoops.{upTo, upTo-of, upTo-is, owned-zero, owned-both, owned-all}
+use Rattle.layout.proofs.Walks.{row-whole}
 use Rattle.moves.specs.Proper.{Proper, Ordered, Held}
 use Rattle.moves.specs.Handing.{sameLevel, otherLevel, inWord, handedIn}
 use Rattle.moves.specs.declared.Split.{Split}
@@ -43,12 +45,12 @@ handedBelow m i v s = handedIn (λ w. ltb w m) i v s
 
 -- the words before word k are done
 pub record Over (s : State) (i v : ℕ) (bs : List ℕ) (r : Split) (k : ℕ) : Type 0 where
-  pub within : 64 * k ≤ most
+  pub within : 64 * k ≤ s .kind .shape .most
   pub bytes : bs ≡ write (handedBelow (64 * k) i v s)
   pub handed : r .handed ≡ count (sameLevel s i v) (64 * k)
   pub below : r .below ≡ count (otherLevel s i v) (64 * k)
 
-module _ (s : State) (p : Proper s) (i v : ℕ) where
+module _ {S : Shape} (s : State) (p : Proper S s) (i v : ℕ) where
   own-not : T (sameLevel s i v v) → ⊥
   own-not t = p .no-loop v (same-is s i v v t .0)
 
@@ -62,7 +64,7 @@ module _ (s : State) (p : Proper s) (i v : ℕ) where
   below-all m l = ap (reown s) (owned-all v (sameLevel s i v) false (s .owns) own-not m
       (λ w t. omega (arith, p .inside v w (same-is s i v w t .0) .1)))
 
-  below-proper : (m : ℕ) → Proper (handedBelow m i v s)
+  below-proper : (m : ℕ) → Proper S (handedBelow m i v s)
   unfolding handedIn
   below-proper m =
       turned-proper s p v (λ w. sameLevel s i v w && ltb w m) false
@@ -112,47 +114,48 @@ module _ (s : State) (p : Proper s) (i v : ℕ) where
   }
 
   module _ {bs : List ℕ} {r : Split} {k : ℕ} (o : Over s i v bs r k) where
-    over-read : read bs ≡ handedBelow (64 * k) i v s
+    over-read : read S bs ≡ handedBelow (64 * k) i v s
     over-read = reads-as bs (handedBelow (64 * k) i v s) (o .bytes) (below-proper (64 * k))
 
-    pub over-held : Held bs
+    pub over-held : Held S bs
     over-held = held-of bs (handedBelow (64 * k) i v s) (o .bytes) (below-proper (64 * k))
 
     -- what the pass over the word asks
     pub over-asks : v < s .n → s .rank v ≡ suc i → 64 * k < s .n
-        → Held bs × (((v < read bs .n) × (read bs .rank v ≡ suc i) × (64 * k < most)) × ((r .handed ≤ most) × (r .below ≤ most)))
+        → Held S bs × (((v < read S bs .n) × (read S bs .rank v ≡ suc i) × (64 * k < S .most)) × ((r .handed ≤ S .most) × (r .below ≤ S .most)))
     unfolding handedIn reown
-    over-asks l e c = (
-      over-held,
-      (
-        (
-          omega (arith, ap (λ (t : State). t .n) over-read),
-          ap (λ (t : State). t .rank v) over-read ∙ e,
-          omega (arith, p .few),
-        ),
-        (
-          omega (arith, p .few, o .handed, count-bound (sameLevel s i v) (64 * k)),
-          omega (arith, p .few, o .below, count-bound (otherLevel s i v) (64 * k)),
-        ),
-      ),
-    )
+    over-asks l e c =
+        let most : s .kind .shape .most ≡ S .most = ap (λ (X : Shape). X .most) (p .shape) in (
+          over-held,
+          (
+            (
+              omega (arith, ap (λ (t : State). t .n) over-read),
+              ap (λ (t : State). t .rank v) over-read ∙ e,
+              omega (arith, p .few, most),
+            ),
+            (
+              omega (arith, p .few, most, o .handed, count-bound (sameLevel s i v) (64 * k)),
+              omega (arith, p .few, most, o .below, count-bound (otherLevel s i v) (64 * k)),
+            ),
+          ),
+        )
 
-    pub over-next : {bs′ : List ℕ} {r′ : Split} → 64 * k < s .n → bs′ ≡ write (handedIn (inWord k 64) i v (read bs))
-        → r′ .handed ≡ r .handed + count (λ j. sameLevel (read bs) i v (64 * k + j)) 64
-        → r′ .below ≡ r .below + count (λ j. otherLevel (read bs) i v (64 * k + j)) 64
+    pub over-next : {bs′ : List ℕ} {r′ : Split} → 64 * k < s .n → bs′ ≡ write (handedIn (inWord k 64) i v (read S bs))
+        → r′ .handed ≡ r .handed + count (λ j. sameLevel (read S bs) i v (64 * k + j)) 64
+        → r′ .below ≡ r .below + count (λ j. otherLevel (read S bs) i v (64 * k + j)) 64
         → Over s i v bs′ r′ (k + 1)
     over-next {bs′} {r′} l e f g =
         let m : 64 * k + 64 ≡ 64 * (k + 1) = omega arith in
-        let same-h : count (λ j. sameLevel (read bs) i v (64 * k + j)) 64 ≡ count (λ j. sameLevel s i v (64 * k + j)) 64 =
+        let same-h : count (λ j. sameLevel (read S bs) i v (64 * k + j)) 64 ≡ count (λ j. sameLevel s i v (64 * k + j)) 64 =
         ap (λ (t : State). count (λ j. sameLevel t i v (64 * k + j)) 64) over-read
         ∙ count-ext (λ j. sameLevel (handedBelow (64 * k) i v s) i v (64 * k + j)) (λ j. sameLevel s i v (64 * k + j)) 64
         (λ j _. below-same (64 * k) (64 * k + j) (omega arith)) in
-        let same-k : count (λ j. otherLevel (read bs) i v (64 * k + j)) 64 ≡ count (λ j. otherLevel s i v (64 * k + j)) 64 =
+        let same-k : count (λ j. otherLevel (read S bs) i v (64 * k + j)) 64 ≡ count (λ j. otherLevel s i v (64 * k + j)) 64 =
         ap (λ (t : State). count (λ j. otherLevel t i v (64 * k + j)) 64) over-read
         ∙ count-ext (λ j. otherLevel (handedBelow (64 * k) i v s) i v (64 * k + j)) (λ j. otherLevel s i v (64 * k + j)) 64
         (λ j _. below-other (64 * k) (64 * k + j) (omega arith)) in
         record {
-          within = omega (arith, p .few);
+          within = omega (arith, p .few, row-whole (p .good));
           bytes = e ∙ ap (λ (t : State). write (handedIn (inWord k 64) i v t)) over-read ∙ ap write (below-word k);
           handed = omega (arith, f, o .handed, same-h, count-add (sameLevel s i v) (64 * k) 64, ap (count (sameLevel s i v)) m);
           below = omega (arith, g, o .below, same-k, count-add (otherLevel s i v) (64 * k) 64, ap (count (otherLevel s i v)) m);

@@ -6,8 +6,10 @@ use mathlib.Core.Bool.{Bool, true, false, _&&_, _||_}
 use Prim.Native.Nat.{ℕ, suc, _+_, _*_, _^_, _≤_, _<_}
 use lib.Dec.{T, eqb, leb, eqb→eq, leb→le, le→leb, lt→ltb, ltb→lt, not-T, T-not}
 use Rattle.model.specs.Counting.{upd}
+use Rattle.model.specs.Shape.{Shape, Good}
 use Rattle.model.specs.State.{State}
-use Rattle.model.specs.Bytes.{bitOf, image}
+use Rattle.model.specs.Bytes.{image}
+use Rattle.model.specs.Parts.{bitOf}
 use Rattle.model.specs.Moves.{ownedBy}
 use Rattle.model.proofs.Tests.{eq?, holds?, bool-ext, true-T, T-true, T-false, eqb-yes, and-intro, and-left, and-right, or-cases, or-left, or-right}
 use Rattle.model.proofs.Lists.{upd-same, upd-other}
@@ -117,17 +119,17 @@ gains-more v w p q owns here f g = fun-ext (λ x. fun-ext (λ y. elim (eq? x w) 
       | inr a ↦ gains-old v p owns x y (gains-else v q owns x y (λ b c. a (and-intro (eqb y v) _ (true-T (eqb-yes y v b)) c)) t)
     ]
 
-pub own-gains : (s : State) (v w : ℕ) (p q : ℕ → Bool) → v < 256 → w < 256 → T (q w) → ((x : ℕ) → T (p x) → T (q x))
-    → ((x : ℕ) → T (q x) → x ≢ w → T (p x))
-    → own (image (ownersOf s (gains v p (s .owns)))) w v ≡ image (ownersOf s (gains v q (s .owns)))
+pub own-gains : (s : State) → Good (s .kind .shape) → (v w : ℕ) (p q : ℕ → Bool) → v < s .kind .shape .most → w < s .kind .shape .most → T (q w)
+    → ((x : ℕ) → T (p x) → T (q x)) → ((x : ℕ) → T (q x) → x ≢ w → T (p x))
+    → own (s .kind .shape) (image (ownersOf s (gains v p (s .owns)))) w v ≡ image (ownersOf s (gains v q (s .owns)))
 unfolding ownersOf withOwns
-own-gains s v w p q l k here f g =
-    own-image (ownersOf s (gains v p (s .owns))) w v k l
+own-gains s good v w p q l k here f g =
+    own-image (ownersOf s (gains v p (s .owns))) good w v k l
     ∙ ap (λ (o : ℕ → ℕ → Bool). image (ownersOf s o)) (gains-more v w p q (s .owns) here f g)
 
 -- ---- the end of the word: v's row keeps what was gathered
 
-module _ (s : State) (p : Proper s) (i v k : ℕ) where
+module _ {S : Shape} (s : State) (p : Proper S s) (i v k : ℕ) where
   abbrev gone : ℕ → Bool
   gone = going s i v k 64
 
@@ -160,12 +162,14 @@ module _ (s : State) (p : Proper s) (i v k : ℕ) where
         word-out (ownersOf s (gains v gone (s .owns))) v k (otherLevel s i v) x y d ∙ gone-out x y d
   ]
 
-  pub word-gone : (x : ℕ) → v < 256 → 64 * k < 256 → x < 2 ^ 64 → ((j : ℕ) → j < 64 → bitOf x j ≡ otherLevel s i v (64 * k + j))
-      → setWord (image (ownersOf s (gains v gone (s .owns)))) v k x ≡ image (ownersOf s (ownedBy v gone false (s .owns)))
+  pub word-gone : (x : ℕ) → v < s .kind .shape .most → 64 * k < s .kind .shape .most → x < 2 ^ 64
+      → ((j : ℕ) → j < 64 → bitOf x j ≡ otherLevel s i v (64 * k + j))
+      → setWord (s .kind .shape) (image (ownersOf s (gains v gone (s .owns)))) v k x ≡ image (ownersOf s (ownedBy v gone false (s .owns)))
   unfolding ownersOf withWord
   word-gone x l m fits same =
-      setWord-image (ownersOf s (gains v gone (s .owns))) v k x (otherLevel s i v) l m fits same
-      ∙ image-ext (withWord (ownersOf s (gains v gone (s .owns))) v k (otherLevel s i v)) (ownersOf s (ownedBy v gone false (s .owns))) (record {
+      setWord-image (ownersOf s (gains v gone (s .owns))) (p .good) v k x (otherLevel s i v) l m fits same
+      ∙ image-ext (withWord (ownersOf s (gains v gone (s .owns))) v k (otherLevel s i v)) (ownersOf s (ownedBy v gone false (s .owns))) (p .good) (record {
+        kind = refl;
         n = refl;
         edges = refl;
         rank = λ _ _. refl;

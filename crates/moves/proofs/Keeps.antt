@@ -6,6 +6,7 @@ use Prim.Native.Nat.{ℕ, suc, _≤_, _<_}
 use native.Mathlib.Omega.{arith}
 use lib.Dec.{T, leb, eqb}
 use Rattle.model.specs.Counting.{upd}
+use Rattle.model.specs.Shape.{Shape}
 use Rattle.model.specs.State.{base, State, edge, near}
 use Rattle.model.specs.Moves.{part, rise, marry, handOver}
 use Rattle.model.specs.Change.{reown}
@@ -25,11 +26,14 @@ upd-past f k x n v h l = upd-other f k x v (omega arith)
 upd-low : (f : ℕ → ℕ) (k x m v : ℕ) → x < m → f v < m → upd f k x v < m
 upd-low f k x m v h l = elim (eq? v k) [ inl e ↦ omega (arith, upd-same f k x v e) | inr d ↦ omega (arith, upd-other f k x v d) ]
 
-module _ (s : State) (p : Proper s) where
+module _ {S : Shape} (s : State) (p : Proper S s) where
   -- other mates below n
   mates-proper : (k x u y : ℕ) → k < s .n → x < s .n → u < s .n → y < s .n
-      → Proper (record { n = s .n; rank = s .rank; mate = upd (upd (s .mate) k x) u y; owns = s .owns })
+      → Proper S (record { kind = s .kind; n = s .n; rank = s .rank; mate = upd (upd (s .mate) k x) u y; owns = s .owns })
   mates-proper k x u y a b c d = record {
+    shape = p .shape;
+    good = p .good;
+    room = p .room;
     few = p .few;
     inside = p .inside;
     past-rank = p .past-rank;
@@ -40,15 +44,15 @@ module _ (s : State) (p : Proper s) where
     owned-once = p .owned-once;
   }
 
-  pub part-proper : (v : ℕ) → v < s .n → Proper (part v s)
+  pub part-proper : (v : ℕ) → v < s .n → Proper S (part v s)
   unfolding part
   part-proper v l = mates-proper (s .mate v) (s .mate v) v v (p .mates v l) (p .mates v l) l l
 
-  pub marry-proper : (u y : ℕ) → u < s .n → y < s .n → Proper (marry u y s)
+  pub marry-proper : (u y : ℕ) → u < s .n → y < s .n → Proper S (marry u y s)
   unfolding marry
   marry-proper u y l k = mates-proper u y y u l k k l
 
-  pub took-proper : (i u : ℕ) → u < s .n → Proper (tookOver i u s)
+  pub took-proper : (i u : ℕ) → u < s .n → Proper S (tookOver i u s)
   unfolding tookOver
   took-proper i u l = turned-proper s p u (near s u i) true (near-edge s u i)
 
@@ -56,13 +60,16 @@ module _ (s : State) (p : Proper s) where
   handed-edge : (i v w : ℕ) → T (s .owns v w && eqb (s .rank w) (suc i)) → T (edge s v w)
   handed-edge i v w t = edge-of s v w (and-left (s .owns v w) _ t)
 
-  pub hand-proper : (i v : ℕ) → v < s .n → Proper (handOver i v s)
+  pub hand-proper : (i v : ℕ) → v < s .n → Proper S (handOver i v s)
   unfolding handOver reown
   hand-proper i v l = turned-proper s p v (λ w. s .owns v w && eqb (s .rank w) (suc i)) false (handed-edge i v)
 
-  pub ranked-proper : (v x : ℕ) → v < s .n → x ≤ suc (base .top) → Proper (ranked v x s)
+  pub ranked-proper : (v x : ℕ) → v < s .n → x ≤ suc (base .top) → Proper S (ranked v x s)
   unfolding ranked
   ranked-proper v x l k = record {
+    shape = p .shape;
+    good = p .good;
+    room = p .room;
     few = p .few;
     inside = p .inside;
     past-rank = λ w h. upd-past (s .rank) v x (s .n) w l h ∙ p .past-rank w h;
@@ -102,7 +109,7 @@ module _ (s : State) (p : Proper s) where
 
   -- and so does a vertex at level i that has handed its edges of that level on
   pub hand-row : (i v : ℕ) → Ordered s → s .rank v ≡ suc i → RowBelow i v (handOver i v s)
-  hand-row i v o e = handed-row (setting base s) (simple s p) i v s (record { size = refl; owners = owners s p o }) e
+  hand-row i v o e = handed-row (setting base s) (simple s p) i v s (record { kind = refl; size = refl; owners = owners s p o }) e
 
   -- where a vertex goes to another rank, its own neighbours are as they were
   pub ranked-near : (v x j w : ℕ) → near (ranked v x s) v j w ≡ near s v j w
@@ -137,7 +144,7 @@ module _ (s : State) (p : Proper s) where
         mate-o = λ x. refl;
       }) e (λ w t. omega (arith, near-low s v i w (subst T (f w) t))) .high
 
-pub rise-proper : (s : State) → Proper s → (i u : ℕ) → u < s .n → i ≤ base .top → Proper (rise i u s)
+pub rise-proper : {S : Shape} (s : State) → Proper S s → (i u : ℕ) → u < s .n → i ≤ base .top → Proper S (rise i u s)
 unfolding tookOver reown
-rise-proper s p i u l k =
-    subst Proper (rise-halves s p i u) (ranked-proper (tookOver i u s) (took-proper s p i u l) u (suc i) l (omega arith))
+rise-proper {S} s p i u l k =
+    subst (Proper S) (rise-halves s p i u) (ranked-proper (tookOver i u s) (took-proper s p i u l) u (suc i) l (omega arith))

@@ -7,6 +7,7 @@ use Prim.Native.Nat.{ℕ, _≤_, _<_}
 use native.Mathlib.Omega.{arith}
 use lib.Dec.{T, eqb, eqb→eq}
 use Rattle.model.specs.Counting.{upd}
+use Rattle.model.specs.Shape.{Good}
 use Rattle.model.specs.State.{State, edge, phi, edges}
 use Rattle.model.specs.Bytes.{Fields, image, mateEntry, fieldsOf, write}
 use Rattle.model.specs.Moves.{ownedBy}
@@ -21,7 +22,7 @@ use Rattle.moves.proofs.Recount.{same-phi, same-edges}
 
 -- what the bytes of s hold, with other owners
 unfoldable pub ownersOf : State → (ℕ → ℕ → Bool) → Fields
-ownersOf s o = record { n = s .n; edges = edges s; rank = s .rank; mate = mateEntry s; phi = phi s; owns = o }
+ownersOf s o = record { kind = s .kind; n = s .n; edges = edges s; rank = s .rank; mate = mateEntry s; phi = phi s; owns = o }
 
 -- with its own owners it is the writing of s
 pub owners-same : (s : State) → write s ≡ image (ownersOf s (s .owns))
@@ -29,9 +30,11 @@ unfolding write fieldsOf ownersOf
 owners-same s = refl
 
 -- and with others that leave the edges as they are, the writing of the state with those owners
-pub owners-write : (s : State) (o : ℕ → ℕ → Bool) → ((v w : ℕ) → edge (reown s o) v w ≡ edge s v w) → image (ownersOf s o) ≡ write (reown s o)
+pub owners-write : (s : State) → Good (s .kind .shape) → (o : ℕ → ℕ → Bool) → ((v w : ℕ) → edge (reown s o) v w ≡ edge s v w)
+    → image (ownersOf s o) ≡ write (reown s o)
 unfolding write fieldsOf ownersOf reown mateEntry
-owners-write s o f = image-ext (ownersOf s o) (fieldsOf (reown s o)) (record {
+owners-write s good o f = image-ext (ownersOf s o) (fieldsOf (reown s o)) good (record {
+  kind = refl;
   n = refl;
   edges = same-edges s (reown s o) refl (λ v w. sym (f v w));
   rank = λ v l. refl;
@@ -45,11 +48,12 @@ owners-write s o f = image-ext (ownersOf s o) (fieldsOf (reown s o)) (record {
 unfoldable passed : ℕ → ℕ → (ℕ → ℕ → Bool) → ℕ → ℕ → Bool
 passed a b o = let q = upd o a (upd (o a) b false) in upd q b (upd (q b) a true)
 
-pass-image : (s : State) (o : ℕ → ℕ → Bool) (a b : ℕ) → a < 256 → b < 256
-    → own (disown (image (ownersOf s o)) a b) b a ≡ image (ownersOf s (passed a b o))
+pass-image : (s : State) → Good (s .kind .shape) → (o : ℕ → ℕ → Bool) (a b : ℕ) → a < s .kind .shape .most → b < s .kind .shape .most
+    → own (s .kind .shape) (disown (s .kind .shape) (image (ownersOf s o)) a b) b a ≡ image (ownersOf s (passed a b o))
 unfolding ownersOf passed withOwns
-pass-image s o a b l k =
-    ap (λ (bs : _). own bs b a) (disown-image (ownersOf s o) a b l k) ∙ own-image (withOwns (ownersOf s o) a b false) b a k l
+pass-image s good o a b l k =
+    ap (λ (bs : _). own (s .kind .shape) bs b a) (disown-image (ownersOf s o) good a b l k)
+    ∙ own-image (withOwns (ownersOf s o) a b false) good b a k l
 
 module _ (a b : ℕ) (o : ℕ → ℕ → Bool) (d : a ≢ b) (x y : ℕ) where
   passed-to : x ≡ b → y ≡ a → passed a b o x y ≡ true
@@ -85,9 +89,9 @@ module _ (o : ℕ → ℕ → Bool) (u k : ℕ) (d : u ≢ k) where
         (λ e h. f e (true-T (eqb-yes y k h))) (λ e h. g h (true-T (eqb-yes x k e))))
   ]))
 
-module _ (s : State) (o : ℕ → ℕ → Bool) (u k : ℕ) (l : u < 256) (m : k < 256) (d : u ≢ k) where
-  pub pass-in : own (disown (image (ownersOf s o)) k u) u k ≡ image (ownersOf s (ownedOne u k true o))
-  pass-in = pass-image s o k u m l ∙ ap (λ (q : ℕ → ℕ → Bool). image (ownersOf s q)) (sym (one-in o u k d))
+pub pass-in : (s : State) → Good (s .kind .shape) → (o : ℕ → ℕ → Bool) (u k : ℕ) → u < s .kind .shape .most → k < s .kind .shape .most → u ≢ k
+    → own (s .kind .shape) (disown (s .kind .shape) (image (ownersOf s o)) k u) u k ≡ image (ownersOf s (ownedOne u k true o))
+pass-in s good o u k l m d = pass-image s good o k u m l ∙ ap (λ (q : ℕ → ℕ → Bool). image (ownersOf s q)) (sym (one-in o u k d))
 
 -- ---- owners along a walk: what is below k is done
 

@@ -6,6 +6,7 @@ use Prim.Native.Nat.{ℕ, _<_}
 use native.Mathlib.Omega.{arith}
 use lib.Dec.{eqb}
 use Rattle.model.specs.Counting.{upd}
+use Rattle.model.specs.Shape.{Shape}
 use Rattle.model.specs.State.{State, edge, near, below, phi, edges}
 use Rattle.model.specs.Bytes.{noMate, mateEntry, fieldsOf, write}
 use Rattle.model.specs.Moves.{part, marry}
@@ -21,12 +22,12 @@ entry-same : (s t : State) (x : ℕ) → s .mate x ≡ t .mate x → mateEntry s
 unfolding mateEntry
 entry-same s t x e = ap (λ (m : ℕ). elim (eqb m x) as (λ y. ℕ) [ true ↦ noMate | false ↦ m ]) e
 
-module _ (s : State) (p : Proper s) (v : ℕ) (l : v < s .n) where
+module _ {S : Shape} (s : State) (p : Proper S s) (v : ℕ) (l : v < s .n) where
   -- the entry tells whether v has a mate, and which
   pub entry-free : mateEntry s v ≡ noMate → s .mate v ≡ v
   entry-free e = elim (eq? (s .mate v) v) [
     | inl q ↦ q
-    | inr d ↦ absurd (omega (arith, mateEntry-mate s v d, p .mates v l, p .few))
+    | inr d ↦ absurd (omega (arith, mateEntry-mate s v d, p .mates v l, p .few, p .good .named))
   ]
 
   pub entry-mate : mateEntry s v ≢ noMate → s .mate v ≢ v
@@ -34,7 +35,8 @@ module _ (s : State) (p : Proper s) (v : ℕ) (l : v < s .n) where
 
   pub part-free : s .mate v ≡ v → write s ≡ write (part v s)
   unfolding write fieldsOf part edges phi below near edge
-  part-free e = image-ext (fieldsOf s) (fieldsOf (part v s)) (record {
+  part-free e = image-ext (fieldsOf s) (fieldsOf (part v s)) (p .good) (record {
+    kind = refl;
     n = refl;
     edges = refl;
     rank = λ x k. refl;
@@ -47,14 +49,15 @@ module _ (s : State) (p : Proper s) (v : ℕ) (l : v < s .n) where
     owns = λ x y k h. refl;
   })
 
-  pub part-image : setMate (setMate (write s) (s .mate v) noMate) v noMate ≡ write (part v s)
+  pub part-image : setMate (s .kind .shape) (setMate (s .kind .shape) (write s) (s .mate v) noMate) v noMate ≡ write (part v s)
   unfolding write fieldsOf part edges phi below near edge withMate
   part-image =
       let m : ℕ = s .mate v in
       let once : ℕ → ℕ = upd (s .mate) m m in
-      ap (λ (b : _). setMate b v noMate) (setMate-image (fieldsOf s) m noMate (omega (arith, p .mates v l, p .few)))
-      ∙ setMate-image (withMate (fieldsOf s) m noMate) v noMate (omega (arith, p .few))
-      ∙ image-ext (withMate (withMate (fieldsOf s) m noMate) v noMate) (fieldsOf (part v s)) (record {
+      ap (λ (b : _). setMate (s .kind .shape) b v noMate) (setMate-image (fieldsOf s) (p .good) m noMate (omega (arith, p .mates v l, p .few)))
+      ∙ setMate-image (withMate (fieldsOf s) m noMate) (p .good) v noMate (omega (arith, p .few))
+      ∙ image-ext (withMate (withMate (fieldsOf s) m noMate) v noMate) (fieldsOf (part v s)) (p .good) (record {
+        kind = refl;
         n = refl;
         edges = refl;
         rank = λ x k. refl;
@@ -71,14 +74,15 @@ module _ (s : State) (p : Proper s) (v : ℕ) (l : v < s .n) where
         owns = λ x y k h. refl;
       })
 
-module _ (s : State) (p : Proper s) (u y : ℕ) (l : u < s .n) (k : y < s .n) (d : u ≢ y) where
-  pub marry-image : setMate (setMate (write s) u y) y u ≡ write (marry u y s)
+module _ {S : Shape} (s : State) (p : Proper S s) (u y : ℕ) (l : u < s .n) (k : y < s .n) (d : u ≢ y) where
+  pub marry-image : setMate (s .kind .shape) (setMate (s .kind .shape) (write s) u y) y u ≡ write (marry u y s)
   unfolding write fieldsOf marry edges phi below near edge withMate
   marry-image =
       let once : ℕ → ℕ = upd (s .mate) u y in
-      ap (λ (b : _). setMate b y u) (setMate-image (fieldsOf s) u y (omega (arith, p .few)))
-      ∙ setMate-image (withMate (fieldsOf s) u y) y u (omega (arith, p .few))
-      ∙ image-ext (withMate (withMate (fieldsOf s) u y) y u) (fieldsOf (marry u y s)) (record {
+      ap (λ (b : _). setMate (s .kind .shape) b y u) (setMate-image (fieldsOf s) (p .good) u y (omega (arith, p .few)))
+      ∙ setMate-image (withMate (fieldsOf s) u y) (p .good) y u (omega (arith, p .few))
+      ∙ image-ext (withMate (withMate (fieldsOf s) u y) y u) (fieldsOf (marry u y s)) (p .good) (record {
+        kind = refl;
         n = refl;
         edges = refl;
         rank = λ x h. refl;

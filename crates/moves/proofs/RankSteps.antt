@@ -6,6 +6,7 @@ use Prim.Native.Nat.{ℕ, suc, _+_, _≤_, _<_}
 use native.Mathlib.Numerals.{add-one}
 use native.Mathlib.Omega.{arith}
 use lib.Dec.{T}
+use Rattle.model.specs.Shape.{Shape}
 use Rattle.model.specs.State.{base, State, edge, below, phi, edges}
 use Rattle.model.specs.Bytes.{image, mateEntry, fieldsOf, write}
 use Rattle.model.proofs.Facts.{Says}
@@ -14,43 +15,44 @@ use Rattle.layout.proofs.Images.{withRank, setRank-image}
 use Rattle.layout.proofs.Said.{says-by}
 use Rattle.moves.specs.Proper.{Proper, ranked, RowBelow}
 use Rattle.moves.specs.Counts.{withCounts, recounted, none, loweredCounts, raisedCounts}
+use Rattle.moves.proofs.Held.{proper-room, proper-few}
 use Rattle.moves.proofs.Keeps.{ranked-proper}
 use Rattle.moves.proofs.Recount.{phi-fits, enter-own, enter-phi, fall-own, fall-phi, fall-owned}
-use Rattle.moves.proofs.CountSteps.{setCount-image, recounted-image}
+use Rattle.moves.proofs.CountSteps.{setCount-proper, recounted-proper}
 
 -- a new rank, where the counts are those of the new rank already
-ranked-image : (s : State) (v x : ℕ) → v < 256
+ranked-image : {S : Shape} (s : State) → Proper S s → (v x : ℕ) → v < S .most
     → setRank (image (withCounts (fieldsOf s) (phi (ranked v x s)))) v x ≡ write (ranked v x s)
 unfolding withRank withCounts fieldsOf write ranked edges edge mateEntry
-ranked-image s v x l = setRank-image (withCounts (fieldsOf s) (phi (ranked v x s))) v x l
+ranked-image s p v x l =
+    setRank-image (withCounts (fieldsOf s) (phi (ranked v x s))) (p .good) v x (omega (arith, ap (λ (T : Shape). T .most) (p .shape)))
 
-module _ (s : State) (p : Proper s) (i v : ℕ) (l : v < s .n) (top : i ≤ base .top) (row : RowBelow i v s) where
+module _ {S : Shape} (s : State) (p : Proper S s) (i v : ℕ) (l : v < s .n) (top : i ≤ base .top) (row : RowBelow i v s) where
   enter-counts : s .rank v ≤ i
-      → recounted none (image (withCounts (fieldsOf s) (loweredCounts s i v))) v 0 (i + 1)
+      → recounted S none (image (withCounts (fieldsOf s) (loweredCounts s i v))) v 0 (i + 1)
       ≡ image (withCounts (fieldsOf s) (phi (ranked v (suc i) s)))
-  unfolding withCounts base
   enter-counts r =
-      recounted-image none (withCounts (fieldsOf s) (loweredCounts s i v)) v 0 (i + 1) (phi (ranked v (suc i) s)) (omega (arith, p .few))
-      (omega arith) (λ j m k. enter-own s p i v j l (omega arith)) (λ w j d. enter-phi s p i v w j l r row (λ e. omega (arith, d e (omega arith))))
+      recounted-proper s p (loweredCounts s i v) none v 0 (i + 1) (phi (ranked v (suc i) s)) (omega (arith, proper-few p))
+      (omega (arith, proper-room p)) (λ j m k. enter-own s p i v j l (omega arith))
+      (λ w j d. enter-phi s p i v w j l r row (λ e. omega (arith, d e (omega arith))))
 
   pub enter-bytes : s .rank v ≤ i
-      → setRank (recounted none (image (withCounts (fieldsOf s) (loweredCounts s i v))) v 0 (i + 1)) v (i + 1) ≡ write (ranked v (suc i) s)
+      → setRank (recounted S none (image (withCounts (fieldsOf s) (loweredCounts s i v))) v 0 (i + 1)) v (i + 1) ≡ write (ranked v (suc i) s)
   enter-bytes r =
-      ap (λ (bs : List ℕ). setRank bs v (i + 1)) (enter-counts r) ∙ rw add-one (ranked-image s v (suc i) (omega (arith, p .few)))
+      ap (λ (bs : List ℕ). setRank bs v (i + 1)) (enter-counts r) ∙ rw add-one (ranked-image s p v (suc i) (omega (arith, proper-few p)))
 
   module _ (r : s .rank v ≡ suc i) where
     -- the count of v at i is the number of its neighbours below i
-    fall-counts : setPhi (image (withCounts (fieldsOf s) (raisedCounts s i v))) v i (below s v i)
+    fall-counts : setPhi S (image (withCounts (fieldsOf s) (raisedCounts s i v))) v i (below s v i)
         ≡ image (withCounts (fieldsOf s) (phi (ranked v i s)))
-    unfolding withCounts base
     fall-counts =
-        setCount-image (withCounts (fieldsOf s) (raisedCounts s i v)) v i (below s v i) (phi (ranked v i s))
-        (omega (arith, p .few)) (omega arith) (fall-own s p i v) (λ w j d. fall-phi s p i v w j l r row d)
+        setCount-proper s p (raisedCounts s i v) v i (below s v i) (phi (ranked v i s)) (omega (arith, proper-few p))
+        (omega (arith, proper-room p)) (fall-own s p i v) (λ w j d. fall-phi s p i v w j l r row d)
 
-    pub fall-bytes : setRank (setPhi (image (withCounts (fieldsOf s) (raisedCounts s i v))) v i (below s v i)) v i ≡ write (ranked v i s)
-    fall-bytes = ap (λ (bs : List ℕ). setRank bs v i) fall-counts ∙ ranked-image s v i (omega (arith, p .few))
+    pub fall-bytes : setRank (setPhi S (image (withCounts (fieldsOf s) (raisedCounts s i v))) v i (below s v i)) v i ≡ write (ranked v i s)
+    fall-bytes = ap (λ (bs : List ℕ). setRank bs v i) fall-counts ∙ ranked-image s p v i (omega (arith, proper-few p))
 
-    pub fall-fits : below s v i < 256
+    pub fall-fits : below s v i < S .most
     fall-fits = omega (arith, fall-own s p i v, phi-fits (ranked v i s) (ranked-proper s p v i l (omega arith)) v i)
 
     -- whether the counts that are raised stay below the threshold is whether those of the state with the new rank are

@@ -9,6 +9,7 @@ use native.Mathlib.Omega.{arith}
 use lib.Dec.{T, leb, leb→le, le→leb}
 use lib.ListN.{length}
 use Rattle.model.specs.Counting.{bit, count}
+use Rattle.model.specs.Shape.{Shape}
 use Rattle.model.specs.State.{State, edge, near, below, phi}
 use Rattle.model.specs.Bytes.{rankAt, ownsAt, image, write}
 use Rattle.model.specs.Moves.{ownedBy}
@@ -39,13 +40,17 @@ pub record Taking (s : State) (i u : ℕ) (bs : List ℕ) (missing k : ℕ) : Ty
   pub within : k ≤ s .n
 
 -- u may rise to i: it owns edges to vertices below i alone
-pub record CanRise (s : State) (i u : ℕ) : Type 0 where
-  pub proper : Proper s
+pub record CanRise (S : Shape) (s : State) (i u : ℕ) : Type 0 where
+  pub proper : Proper S s
   pub within : u < s .n
   pub low : (w : ℕ) → T (s .owns u w) → s .rank w ≤ i
 
-module _ {s : State} {i u : ℕ} (q : CanRise s i u) where
-  small : (w : ℕ) → w < s .n → w < 256
+module _ {S : Shape} {s : State} {i u : ℕ} (q : CanRise S s i u) where
+  -- the shape of its bytes
+  abbrev of : Shape
+  of = s .kind .shape
+
+  small : (w : ℕ) → w < s .n → w < of .most
   small w k = omega (arith, q .proper .few)
 
   self-not : T (owed s i u u) → ⊥
@@ -134,18 +139,20 @@ module _ {s : State} {i u : ℕ} (q : CanRise s i u) where
   }
 
   module _ {bs : List ℕ} {missing k : ℕ} (t : Taking s i u bs missing k) where
-    pub taking-sized : Sized bs
-    taking-sized = ap length (t .given) ∙ image-length (ownersOf s (takenTo s i u k))
-
-    pub taking-rank : (w : ℕ) → w < 256 → rankAt bs w ≡ s .rank w
+    pub taking-sized : Sized of bs
     unfolding ownersOf
-    taking-rank w h = ap (λ (b : List ℕ). rankAt b w) (t .given) ∙ rank-image (ownersOf s (takenTo s i u k)) w h
+    taking-sized = ap length (t .given) ∙ image-length (ownersOf s (takenTo s i u k)) (q .proper .good)
+
+    pub taking-rank : (w : ℕ) → w < of .most → rankAt bs w ≡ s .rank w
+    unfolding ownersOf
+    taking-rank w h = ap (λ (b : List ℕ). rankAt b w) (t .given) ∙ rank-image (ownersOf s (takenTo s i u k)) (q .proper .good) w h
 
     -- k has not been looked at
-    pub taking-owns : k < s .n → ownsAt bs k u ≡ s .owns k u
+    pub taking-owns : k < s .n → ownsAt of bs k u ≡ s .owns k u
     unfolding ownersOf takenTo
     taking-owns h =
-        ap (λ (b : List ℕ). ownsAt b k u) (t .given) ∙ owns-image (ownersOf s (takenTo s i u k)) k u (small k h) (small u (q .within))
+        ap (λ (b : List ℕ). ownsAt of b k u) (t .given)
+        ∙ owns-image (ownersOf s (takenTo s i u k)) (q .proper .good) k u (small k h) (small u (q .within))
         ∙ column-from u (owed s i u) true (s .owns) self-not k k (omega arith)
 
     -- a turn at k leaves cs, with `fewer` edges left to take
@@ -161,13 +168,13 @@ module _ {s : State} {i u : ℕ} (q : CanRise s i u) where
           }
 
       -- k's edge is taken, so one was missing
-      pub taking-yes : T (s .owns k u) → s .rank k ≤ i → cs ≡ own (disown bs k u) u k → fewer ≡ missing - 1 → Taking s i u cs fewer (suc k)
+      pub taking-yes : T (s .owns k u) → s .rank k ≤ i → cs ≡ own of (disown of bs k u) u k → fewer ≡ missing - 1 → Taking s i u cs fewer (suc k)
       unfolding takenTo owed
       taking-yes o r e d =
           let yes : T (owed s i u k) = and-intro (s .owns k u) _ o (le→leb (s .rank k) i r) in record {
             given =
-                e ∙ ap (λ (b : List ℕ). own (disown b k u) u k) (t .given)
-                ∙ pass-in s (takenTo s i u k) u k (small u (q .within)) (small k h)
+                e ∙ ap (λ (b : List ℕ). own of (disown of b k u) u k) (t .given)
+                ∙ pass-in s (q .proper .good) (takenTo s i u k) u k (small u (q .within)) (small k h)
                 (λ x. q .proper .no-loop u (subst (λ (x : ℕ). T (s .owns x u)) (sym x) o))
                 ∙ ap (λ (o : ℕ → ℕ → Bool). image (ownersOf s o)) (sym (owned-yes u (owed s i u) true (s .owns) self-not k yes));
             left =
@@ -199,4 +206,4 @@ module _ {s : State} {i u : ℕ} (q : CanRise s i u) where
         t .given ∙ ap (λ (o : ℕ → ℕ → Bool). image (ownersOf s o))
         (owned-skip u (owed s i u) true (s .owns) self-not k (s .n) (t .within) none
         ∙ owned-all u (owed s i u) true (s .owns) self-not (s .n) (λ x o. q .proper .inside x u (owed-owns x o) .0) ∙ taken-all)
-        ∙ owners-write s (ownedBy u (near s u i) true (s .owns)) (λ x y. took-edge s (q .proper) i u x y)
+        ∙ owners-write s (q .proper .good) (ownedBy u (near s u i) true (s .owns)) (λ x y. took-edge s (q .proper) i u x y)

@@ -4,15 +4,19 @@ use mathlib.Core.Bool.{true}
 use mathlib.Core.List.{List}
 use Prim.Native.Nat.{ℕ, suc, _≤_, _<_}
 use lib.Dec.{T}
+use Rattle.model.specs.Shape.{Shape, Good}
 use Rattle.model.specs.State.{base, State, near}
-use Rattle.model.specs.Bytes.{most, read, write}
+use Rattle.model.specs.Bytes.{read, write}
 use Rattle.model.specs.Counting.{upd}
 use Rattle.model.specs.Moves.{ownedBy}
 use Rattle.model.specs.Change.{reown}
 
--- the conditions of a valid state that no step breaks: nothing stands past n, ranks and mates are in range, each edge has one owner
-pub record Proper (s : State) : Type 0 where
-  pub few : s .n ≤ most
+-- the conditions of a valid state that no step breaks: a good shape with room for the levels, nothing stands past n, ranks and mates are in range, each edge has one owner
+pub record Proper (S : Shape) (s : State) : Type 0 where
+  pub shape : s .kind .shape ≡ S
+  pub good : Good (s .kind .shape)
+  pub room : base .top < s .kind .shape .levels
+  pub few : s .n ≤ s .kind .shape .most
   pub inside : (v w : ℕ) → T (s .owns v w) → (v < s .n) × (w < s .n)
   pub past-rank : (v : ℕ) → s .n ≤ v → s .rank v ≡ 0
   pub past-mate : (v : ℕ) → s .n ≤ v → s .mate v ≡ v
@@ -26,9 +30,9 @@ abbrev pub Ordered : State → Type 0
 Ordered s = (v w : ℕ) → T (s .owns v w) → s .rank w ≤ s .rank v
 
 -- the bytes are the writing of a proper state
-pub record Held (bs : List ℕ) : Type 0 where
-  pub written : bs ≡ write (read bs)
-  pub proper : Proper (read bs)
+pub record Held (S : Shape) (bs : List ℕ) : Type 0 where
+  pub written : bs ≡ write (read S bs)
+  pub proper : Proper S (read S bs)
 
 -- u owns every edge to a vertex below level i: the owners after the first half of a rise
 unfoldable pub tookOver : ℕ → ℕ → State → State
@@ -36,7 +40,7 @@ tookOver i u s = reown s (ownedBy u (near s u i) true (s .owns))
 
 -- v stands at rank x: its counts and those of its neighbours follow
 unfoldable pub ranked : ℕ → ℕ → State → State
-ranked v x s = record { n = s .n; rank = upd (s .rank) v x; mate = s .mate; owns = s .owns }
+ranked v x s = record { kind = s .kind; n = s .n; rank = upd (s .rank) v x; mate = s .mate; owns = s .owns }
 
 -- the edges that u owns are exactly those to its neighbours below level i
 abbrev pub RowBelow : ℕ → ℕ → State → Type 0

@@ -4,22 +4,23 @@ ghost use mathlib.Core.Path.{_≡_};
 ghost use mathlib.Core.Logic.{_≢_};
 ghost use Prim.Native.Nat.{ℕ, suc, _+_, _*_, _<_, _≤_};
 ghost use lib.Dec.{T};
+ghost use Rattle.model.specs.Shape.{low};
 ghost use Rattle.model.specs.Counting.{count};
 ghost use Rattle.model.specs.State.{base, below, phi};
-ghost use Rattle.model.specs.Bytes.{most as mostOf, phiAt, image, fieldsOf, read, write};
+ghost use Rattle.model.specs.Bytes.{phiAt, image, fieldsOf, read, write};
 ghost use Rattle.model.specs.Moves.{part as parted, rise as risen, marry as paired, handOver};
 ghost use Rattle.model.proofs.Facts.{Says};
 ghost use Rattle.theory.specs.Handing.{handedOn};
 ghost use Rattle.layout.specs.Setters.{Sized, own as owned, disown as disowned};
 ghost use Rattle.moves.specs.Proper.{Ordered, Held, tookOver, ranked, RowBelow};
 ghost use Rattle.moves.specs.Handing.{sameLevel, otherLevel, inWord, handedIn};
-ghost use Rattle.moves.specs.Counts.{withCounts, step, CanStep, none, recounted, loweredCounts, raisedCounts};
+ghost use Rattle.moves.specs.Counts.{withCounts, step, CanStep, largestCount, none, recounted, loweredCounts, raisedCounts};
 
 // v's pair is parted; a free v stays as it is.
 pub fn part(rack: &mut [u8], v: usize)
-    requires { ⌜ Held (now rack) ⌝ }
-    requires { ⌜ v < read (now rack) .n ⌝ }
-    ensures { λ _. ⌜ now (rack .exit) ≡ write (parted v (read (now (rack .entry)))) ⌝ }
+    requires { ⌜ Held low (now rack) ⌝ }
+    requires { ⌜ v < read low (now rack) .n ⌝ }
+    ensures { λ _. ⌜ now (rack .exit) ≡ write (parted v (read low (now (rack .entry)))) ⌝ }
 {
     let m = layout::mate(rack, v);
     if m == layout::NO_MATE {
@@ -31,9 +32,9 @@ pub fn part(rack: &mut [u8], v: usize)
 
 // u and y are mates.
 pub fn pair(rack: &mut [u8], u: usize, y: usize)
-    requires { ⌜ Held (now rack) ⌝ }
-    requires { ⌜ (u < read (now rack) .n) × (y < read (now rack) .n) × (u ≢ y) ⌝ }
-    ensures { λ _. ⌜ now (rack .exit) ≡ write (paired u y (read (now (rack .entry)))) ⌝ }
+    requires { ⌜ Held low (now rack) ⌝ }
+    requires { ⌜ (u < read low (now rack) .n) × (y < read low (now rack) .n) × (u ≢ y) ⌝ }
+    ensures { λ _. ⌜ now (rack .exit) ≡ write (paired u y (read low (now (rack .entry)))) ⌝ }
 {
     layout::set_mate(rack, u, y as u16);
     layout::set_mate(rack, y, u as u16);
@@ -41,9 +42,9 @@ pub fn pair(rack: &mut [u8], u: usize, y: usize)
 
 // The edge v-w passes from v to w.
 fn pass(rack: &mut [u8], v: usize, w: usize)
-    requires { ⌜ Sized (now rack) ⌝ }
-    requires { ⌜ (v < mostOf) × (w < mostOf) ⌝ }
-    ensures { λ _. ⌜ now (rack .exit) ≡ owned (disowned (now (rack .entry)) v w) w v ⌝ }
+    requires { ⌜ Sized low (now rack) ⌝ }
+    requires { ⌜ (v < low .most) × (w < low .most) ⌝ }
+    ensures { λ _. ⌜ now (rack .exit) ≡ owned low (disowned low (now (rack .entry)) v w) w v ⌝ }
 {
     layout::disown(rack, v, w);
     layout::own(rack, w, v);
@@ -52,10 +53,10 @@ fn pass(rack: &mut [u8], v: usize, w: usize)
 // u takes every edge to a vertex below level i: the first half of a rise. Its count at i less the edges that it owns already says how many
 // owners are still to be found, so that the walk needs no other end.
 fn take_over(rack: &mut [u8], u: usize, i: usize)
-    requires { ⌜ Held (now rack) ⌝ }
-    requires { ⌜ (u < read (now rack) .n) × (read (now rack) .rank u ≤ i) × (i ≤ base .top) ⌝ }
-    requires { ⌜ ((w : ℕ) → T (read (now rack) .owns u w) → read (now rack) .rank w ≤ i) ⌝ }
-    ensures { λ _. ⌜ now (rack .exit) ≡ write (tookOver i u (read (now (rack .entry)))) ⌝ }
+    requires { ⌜ Held low (now rack) ⌝ }
+    requires { ⌜ (u < read low (now rack) .n) × (read low (now rack) .rank u ≤ i) × (i ≤ base .top) ⌝ }
+    requires { ⌜ ((w : ℕ) → T (read low (now rack) .owns u w) → read low (now rack) .rank w ≤ i) ⌝ }
+    ensures { λ _. ⌜ now (rack .exit) ≡ write (tookOver i u (read low (now (rack .entry)))) ⌝ }
 {
     let mut missing = layout::phi(rack, u, i) as usize - layout::degree(rack, u);
     let mut w = 0;
@@ -78,12 +79,12 @@ pub struct Split {
 
 // The pass over word k of v's row, with what it came to so far. What stays of the word is gathered and written at its end.
 fn hand_word(rack: &mut [u8], v: usize, i: usize, k: usize, split: Split) -> Split
-    requires { ⌜ Held (now rack) ⌝ }
-    requires { ⌜ (v < read (now rack) .n) × (read (now rack) .rank v ≡ suc i) × (64 * k < mostOf) ⌝ }
-    requires { ⌜ (split .handed ≤ mostOf) × (split .below ≤ mostOf) ⌝ }
-    ensures { λ _. ⌜ now (rack .exit) ≡ write (handedIn (inWord k 64) i v (read (now (rack .entry)))) ⌝ }
-    ensures { λ r. ⌜ r .handed ≡ split .handed + count (λ j. sameLevel (read (now (rack .entry))) i v (64 * k + j)) 64 ⌝ }
-    ensures { λ r. ⌜ r .below ≡ split .below + count (λ j. otherLevel (read (now (rack .entry))) i v (64 * k + j)) 64 ⌝ }
+    requires { ⌜ Held low (now rack) ⌝ }
+    requires { ⌜ (v < read low (now rack) .n) × (read low (now rack) .rank v ≡ suc i) × (64 * k < low .most) ⌝ }
+    requires { ⌜ (split .handed ≤ low .most) × (split .below ≤ low .most) ⌝ }
+    ensures { λ _. ⌜ now (rack .exit) ≡ write (handedIn (inWord k 64) i v (read low (now (rack .entry)))) ⌝ }
+    ensures { λ r. ⌜ r .handed ≡ split .handed + count (λ j. sameLevel (read low (now (rack .entry))) i v (64 * k + j)) 64 ⌝ }
+    ensures { λ r. ⌜ r .below ≡ split .below + count (λ j. otherLevel (read low (now (rack .entry))) i v (64 * k + j)) 64 ⌝ }
 {
     let mut handed = split.handed;
     let mut below = split.below;
@@ -108,11 +109,11 @@ fn hand_word(rack: &mut [u8], v: usize, i: usize, k: usize, split: Split) -> Spl
 // v hands each edge that it owns to a vertex of its own level i to that vertex. W-204: "hand links on and count what is below in one pass over
 // the board's row"; "The pass answers both numbers".
 pub fn hand_over(rack: &mut [u8], v: usize, i: usize) -> Split
-    requires { ⌜ (Held (now rack)) × (Ordered (read (now rack))) ⌝ }
-    requires { ⌜ (v < read (now rack) .n) × (read (now rack) .rank v ≡ suc i) ⌝ }
-    ensures { λ _. ⌜ now (rack .exit) ≡ write (handOver i v (read (now (rack .entry)))) ⌝ }
-    ensures { λ r. ⌜ r .handed ≡ count (handedOn (read (now (rack .entry))) (handOver i v (read (now (rack .entry)))) v) (read (now (rack .entry)) .n) ⌝ }
-    ensures { λ r. ⌜ r .below ≡ below (handOver i v (read (now (rack .entry)))) v i ⌝ }
+    requires { ⌜ (Held low (now rack)) × (Ordered (read low (now rack))) ⌝ }
+    requires { ⌜ (v < read low (now rack) .n) × (read low (now rack) .rank v ≡ suc i) ⌝ }
+    ensures { λ _. ⌜ now (rack .exit) ≡ write (handOver i v (read low (now (rack .entry)))) ⌝ }
+    ensures { λ r. ⌜ r .handed ≡ count (handedOn (read low (now (rack .entry))) (handOver i v (read low (now (rack .entry)))) v) (read low (now (rack .entry)) .n) ⌝ }
+    ensures { λ r. ⌜ r .below ≡ below (handOver i v (read low (now (rack .entry)))) v i ⌝ }
 {
     let n = layout::size(rack);
     let mut split = Split {
@@ -140,10 +141,10 @@ pub fn stepped(x: u16, more: bool) -> u16
 
 // The counts of w at the k levels from j on are one more, or one less.
 pub fn step_counts(rack: &mut [u8], w: usize, j: usize, k: usize, more: bool)
-    requires { ⌜ Sized (now rack) ⌝ }
-    requires { ⌜ (w < mostOf) × (j + k ≤ 4) ⌝ }
-    requires { ⌜ ((x : ℕ) → j ≤ x → x < j + k → CanStep more 255 (phiAt (now rack) w x)) ⌝ }
-    ensures { λ _. ⌜ now (rack .exit) ≡ recounted (step more) (now (rack .entry)) w j k ⌝ }
+    requires { ⌜ Sized low (now rack) ⌝ }
+    requires { ⌜ (w < low .most) × (j + k ≤ low .levels) ⌝ }
+    requires { ⌜ ((x : ℕ) → j ≤ x → x < j + k → CanStep more (largestCount low) (phiAt low (now rack) w x)) ⌝ }
+    ensures { λ _. ⌜ now (rack .exit) ≡ recounted low (step more) (now (rack .entry)) w j k ⌝ }
 {
     let mut x = 0;
     while x < k {
@@ -155,10 +156,10 @@ pub fn step_counts(rack: &mut [u8], w: usize, j: usize, k: usize, more: bool)
 
 // The counts of the vertices to which u owns an edge lose u, which leaves its level for level i.
 fn lower_counts(rack: &mut [u8], u: usize, i: usize)
-    requires { ⌜ Held (now rack) ⌝ }
-    requires { ⌜ (u < read (now rack) .n) × (read (now rack) .rank u ≤ i) × (i ≤ base .top) ⌝ }
-    requires { ⌜ RowBelow i u (read (now rack)) ⌝ }
-    ensures { λ _. ⌜ now (rack .exit) ≡ image (withCounts (fieldsOf (read (now (rack .entry)))) (loweredCounts (read (now (rack .entry))) i u)) ⌝ }
+    requires { ⌜ Held low (now rack) ⌝ }
+    requires { ⌜ (u < read low (now rack) .n) × (read low (now rack) .rank u ≤ i) × (i ≤ base .top) ⌝ }
+    requires { ⌜ RowBelow i u (read low (now rack)) ⌝ }
+    ensures { λ _. ⌜ now (rack .exit) ≡ image (withCounts (fieldsOf (read low (now (rack .entry)))) (loweredCounts (read low (now (rack .entry))) i u)) ⌝ }
 {
     let from = layout::rank(rack, u) as usize;
     let mut at = layout::walk::first(rack, u);
@@ -176,9 +177,9 @@ fn lower_counts(rack: &mut [u8], u: usize, i: usize)
 
 // The counts of u below level k are 0.
 fn zero_counts(rack: &mut [u8], u: usize, k: usize)
-    requires { ⌜ Sized (now rack) ⌝ }
-    requires { ⌜ (u < mostOf) × (k ≤ 4) ⌝ }
-    ensures { λ _. ⌜ now (rack .exit) ≡ recounted none (now (rack .entry)) u 0 k ⌝ }
+    requires { ⌜ Sized low (now rack) ⌝ }
+    requires { ⌜ (u < low .most) × (k ≤ low .levels) ⌝ }
+    ensures { λ _. ⌜ now (rack .exit) ≡ recounted low none (now (rack .entry)) u 0 k ⌝ }
 {
     let mut j = 0;
     while j < k {
@@ -189,10 +190,10 @@ fn zero_counts(rack: &mut [u8], u: usize, k: usize)
 
 // u stands at level i: the second half of a rise, once its edges to the vertices below i are its own.
 fn enter(rack: &mut [u8], u: usize, i: usize)
-    requires { ⌜ Held (now rack) ⌝ }
-    requires { ⌜ (u < read (now rack) .n) × (read (now rack) .rank u ≤ i) × (i ≤ base .top) ⌝ }
-    requires { ⌜ RowBelow i u (read (now rack)) ⌝ }
-    ensures { λ _. ⌜ now (rack .exit) ≡ write (ranked u (suc i) (read (now (rack .entry)))) ⌝ }
+    requires { ⌜ Held low (now rack) ⌝ }
+    requires { ⌜ (u < read low (now rack) .n) × (read low (now rack) .rank u ≤ i) × (i ≤ base .top) ⌝ }
+    requires { ⌜ RowBelow i u (read low (now rack)) ⌝ }
+    ensures { λ _. ⌜ now (rack .exit) ≡ write (ranked u (suc i) (read low (now (rack .entry)))) ⌝ }
 {
     lower_counts(rack, u, i);
     zero_counts(rack, u, i + 1);
@@ -201,10 +202,10 @@ fn enter(rack: &mut [u8], u: usize, i: usize)
 
 // "Rise of u to i: u takes ownership of every link to a board then below i. Other owners stand."
 pub fn rise(rack: &mut [u8], u: usize, i: usize)
-    requires { ⌜ Held (now rack) ⌝ }
-    requires { ⌜ (u < read (now rack) .n) × (read (now rack) .rank u ≤ i) × (i ≤ base .top) ⌝ }
-    requires { ⌜ ((w : ℕ) → T (read (now rack) .owns u w) → read (now rack) .rank w ≤ i) ⌝ }
-    ensures { λ _. ⌜ now (rack .exit) ≡ write (risen i u (read (now (rack .entry)))) ⌝ }
+    requires { ⌜ Held low (now rack) ⌝ }
+    requires { ⌜ (u < read low (now rack) .n) × (read low (now rack) .rank u ≤ i) × (i ≤ base .top) ⌝ }
+    requires { ⌜ ((w : ℕ) → T (read low (now rack) .owns u w) → read low (now rack) .rank w ≤ i) ⌝ }
+    ensures { λ _. ⌜ now (rack .exit) ≡ write (risen i u (read low (now (rack .entry)))) ⌝ }
 {
     take_over(rack, u, i);
     enter(rack, u, i);
@@ -212,11 +213,11 @@ pub fn rise(rack: &mut [u8], u: usize, i: usize)
 
 // The counts at i of the vertices to which v owns an edge gain v, which falls below level i; whether they all stay below the threshold.
 fn raise_counts(rack: &mut [u8], v: usize, i: usize) -> bool
-    requires { ⌜ Held (now rack) ⌝ }
-    requires { ⌜ (v < read (now rack) .n) × (read (now rack) .rank v ≡ suc i) × (i ≤ base .top) ⌝ }
-    requires { ⌜ RowBelow i v (read (now rack)) ⌝ }
-    ensures { λ _. ⌜ now (rack .exit) ≡ image (withCounts (fieldsOf (read (now (rack .entry)))) (raisedCounts (read (now (rack .entry))) i v)) ⌝ }
-    ensures { λ r. ⌜ Says r ((w : ℕ) → T (read (now (rack .entry)) .owns v w) → raisedCounts (read (now (rack .entry))) i v w i < base .thr i) ⌝ }
+    requires { ⌜ Held low (now rack) ⌝ }
+    requires { ⌜ (v < read low (now rack) .n) × (read low (now rack) .rank v ≡ suc i) × (i ≤ base .top) ⌝ }
+    requires { ⌜ RowBelow i v (read low (now rack)) ⌝ }
+    ensures { λ _. ⌜ now (rack .exit) ≡ image (withCounts (fieldsOf (read low (now (rack .entry)))) (raisedCounts (read low (now (rack .entry))) i v)) ⌝ }
+    ensures { λ r. ⌜ Says r ((w : ℕ) → T (read low (now (rack .entry)) .owns v w) → raisedCounts (read low (now (rack .entry))) i v w i < base .thr i) ⌝ }
 {
     let bar = layout::threshold(i);
     let mut low = true;
@@ -236,11 +237,11 @@ fn raise_counts(rack: &mut [u8], v: usize, i: usize) -> bool
 // "v falls to i-1", once it owns edges to vertices below i alone, k of them; whether the counts at i of these vertices all stay below the
 // threshold.
 pub fn fall(rack: &mut [u8], v: usize, i: usize, k: usize) -> bool
-    requires { ⌜ Held (now rack) ⌝ }
-    requires { ⌜ (v < read (now rack) .n) × (read (now rack) .rank v ≡ suc i) × (i ≤ base .top) ⌝ }
-    requires { ⌜ (RowBelow i v (read (now rack))) × (k ≡ below (read (now rack)) v i) ⌝ }
-    ensures { λ _. ⌜ now (rack .exit) ≡ write (ranked v i (read (now (rack .entry)))) ⌝ }
-    ensures { λ r. ⌜ Says r ((w : ℕ) → T (read (now (rack .entry)) .owns v w) → phi (ranked v i (read (now (rack .entry)))) w i < base .thr i) ⌝ }
+    requires { ⌜ Held low (now rack) ⌝ }
+    requires { ⌜ (v < read low (now rack) .n) × (read low (now rack) .rank v ≡ suc i) × (i ≤ base .top) ⌝ }
+    requires { ⌜ (RowBelow i v (read low (now rack))) × (k ≡ below (read low (now rack)) v i) ⌝ }
+    ensures { λ _. ⌜ now (rack .exit) ≡ write (ranked v i (read low (now (rack .entry)))) ⌝ }
+    ensures { λ r. ⌜ Says r ((w : ℕ) → T (read low (now (rack .entry)) .owns v w) → phi (ranked v i (read low (now (rack .entry)))) w i < base .thr i) ⌝ }
 {
     let low = raise_counts(rack, v, i);
     layout::set_phi(rack, v, i, k as u8);

@@ -1,8 +1,9 @@
 // The calls for C and Rust, under one prefix. Numbers pass as themselves, a slice as a pointer and then a length. The result is document
 // 01's number, 0 if the call ran; a figure comes back through a pointer, 0 where the call is turned back.
 ghost use mathlib.Core.Path.{_≡_};
+ghost use Rattle.model.specs.Shape.{low};
 ghost use Rattle.model.specs.Counting.{bit};
-ghost use Rattle.model.specs.State.{base};
+ghost use Rattle.model.specs.State.{base, lowKind};
 ghost use Rattle.model.specs.Calls.{makeNumber, made, changeBytes, audit as auditOf, levelQuery, mateQuery, linkedQuery};
 ghost use Rattle.model.specs.Run.{Ran};
 ghost use Rattle.changes.specs.Sounded.{brought};
@@ -10,8 +11,8 @@ ghost use Rattle.changes.specs.Sounded.{brought};
 // Making a rack of n boards.
 #[no_mangle]
 pub extern "C" fn pairing_make(rack: &mut [u8], n: u32) -> u32
-    ensures number { λ r. ⌜ r ≡ makeNumber (now (rack .entry)) n ⌝ }
-    ensures leaves { λ _. ⌜ now (rack .exit) ≡ made (now (rack .entry)) n ⌝ }
+    ensures number { λ r. ⌜ r ≡ makeNumber low (now (rack .entry)) n ⌝ }
+    ensures leaves { λ _. ⌜ now (rack .exit) ≡ made lowKind (now (rack .entry)) n ⌝ }
 {
     engine::make(rack, n)
 }
@@ -28,11 +29,11 @@ pub extern "C" fn pairing_change(
     falls: &mut u32,
     pairs: &mut u32,
 ) -> u32
-    ensures number { λ r. ⌜ r ≡ changeBytes base (now (rack .entry)) (brought code a b (now (words .entry))) .answer .number ⌝ }
-    ensures draws { λ _. ⌜ now (draws .exit) ≡ changeBytes base (now (rack .entry)) (brought code a b (now (words .entry))) .answer .draws ⌝ }
-    ensures falls { λ _. ⌜ now (falls .exit) ≡ changeBytes base (now (rack .entry)) (brought code a b (now (words .entry))) .answer .falls ⌝ }
-    ensures pairs { λ _. ⌜ now (pairs .exit) ≡ changeBytes base (now (rack .entry)) (brought code a b (now (words .entry))) .answer .pairs ⌝ }
-    ensures leaves { λ _. ⌜ now (rack .exit) ≡ changeBytes base (now (rack .entry)) (brought code a b (now (words .entry))) .rack ⌝ }
+    ensures number { λ r. ⌜ r ≡ changeBytes base low (now (rack .entry)) (brought code a b (now (words .entry))) .answer .number ⌝ }
+    ensures draws { λ _. ⌜ now (draws .exit) ≡ changeBytes base low (now (rack .entry)) (brought code a b (now (words .entry))) .answer .draws ⌝ }
+    ensures falls { λ _. ⌜ now (falls .exit) ≡ changeBytes base low (now (rack .entry)) (brought code a b (now (words .entry))) .answer .falls ⌝ }
+    ensures pairs { λ _. ⌜ now (pairs .exit) ≡ changeBytes base low (now (rack .entry)) (brought code a b (now (words .entry))) .answer .pairs ⌝ }
+    ensures leaves { λ _. ⌜ now (rack .exit) ≡ changeBytes base low (now (rack .entry)) (brought code a b (now (words .entry))) .rack ⌝ }
 {
     let answer = engine::change(rack, code, a, b, words);
     *draws = answer.draws;
@@ -54,8 +55,8 @@ fn flag(yes: bool) -> u32
 // The audit: yes is 1 if the rack is sound.
 #[no_mangle]
 pub extern "C" fn pairing_audit(rack: &[u8], yes: &mut u32) -> u32
-    ensures number { λ r. ⌜ r ≡ auditOf base (now (rack .entry)) .number ⌝ }
-    ensures yes { λ _. ⌜ now (yes .exit) ≡ bit (auditOf base (now (rack .entry)) .yes) ⌝ }
+    ensures number { λ r. ⌜ r ≡ auditOf base low (now (rack .entry)) .number ⌝ }
+    ensures yes { λ _. ⌜ now (yes .exit) ≡ bit (auditOf base low (now (rack .entry)) .yes) ⌝ }
 {
     let answer = engine::audit(rack);
     let found = flag(answer.yes);
@@ -66,8 +67,8 @@ pub extern "C" fn pairing_audit(rack: &[u8], yes: &mut u32) -> u32
 // A board's level, -1 to 3.
 #[no_mangle]
 pub extern "C" fn pairing_level(rack: &[u8], v: u32, level: &mut i32) -> u32
-    ensures number { λ r. ⌜ r ≡ levelQuery base (now (rack .entry)) v .number ⌝ }
-    ensures level { λ _. ⌜ now (level .exit) ≡ levelQuery base (now (rack .entry)) v .level ⌝ }
+    ensures number { λ r. ⌜ r ≡ levelQuery base low (now (rack .entry)) v .number ⌝ }
+    ensures level { λ _. ⌜ now (level .exit) ≡ levelQuery base low (now (rack .entry)) v .level ⌝ }
 {
     let answer = engine::level(rack, v);
     let found = answer.level;
@@ -78,8 +79,8 @@ pub extern "C" fn pairing_level(rack: &[u8], v: u32, level: &mut i32) -> u32
 // A board's mate, 65,535 if it is idle.
 #[no_mangle]
 pub extern "C" fn pairing_mate(rack: &[u8], v: u32, mate: &mut u32) -> u32
-    ensures number { λ r. ⌜ r ≡ mateQuery base (now (rack .entry)) v .number ⌝ }
-    ensures mate { λ _. ⌜ now (mate .exit) ≡ mateQuery base (now (rack .entry)) v .value ⌝ }
+    ensures number { λ r. ⌜ r ≡ mateQuery base low (now (rack .entry)) v .number ⌝ }
+    ensures mate { λ _. ⌜ now (mate .exit) ≡ mateQuery base low (now (rack .entry)) v .value ⌝ }
 {
     let answer = engine::mate(rack, v);
     let found = answer.value;
@@ -90,8 +91,8 @@ pub extern "C" fn pairing_mate(rack: &[u8], v: u32, mate: &mut u32) -> u32
 // Whether two boards are linked: 1 or 0.
 #[no_mangle]
 pub extern "C" fn pairing_linked(rack: &[u8], v: u32, w: u32, linked: &mut u32) -> u32
-    ensures number { λ r. ⌜ r ≡ linkedQuery base (now (rack .entry)) v w .number ⌝ }
-    ensures linked { λ _. ⌜ now (linked .exit) ≡ linkedQuery base (now (rack .entry)) v w .value ⌝ }
+    ensures number { λ r. ⌜ r ≡ linkedQuery base low (now (rack .entry)) v w .number ⌝ }
+    ensures linked { λ _. ⌜ now (linked .exit) ≡ linkedQuery base low (now (rack .entry)) v w .value ⌝ }
 {
     let answer = engine::linked(rack, v, w);
     let found = answer.value;

@@ -11,7 +11,7 @@ fn main() {
         os::fail(b"rack: reading the trace");
         return;
     };
-    let mut rack = [0u8; layout::RACK_BYTES];
+    let mut rack = [0u8; layout::shape::RACK_BYTES];
     let mut space = io::large_buffer();
     let k = run::show(&mut rack, &text[..n], &mut space);
     if !io::write_all(STDOUT_FILENO, &space[..k]) {

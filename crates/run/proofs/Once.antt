@@ -10,7 +10,8 @@ use lib.Dec.{ltb}
 use lib.ListN.{length, take, drop, length-append, take-append-drop}
 use lib.Seq.{length-take-le}
 use native.Mathlib.Nat.{zero-add}
-use Rattle.model.specs.State.{Rules, base, empty}
+use Rattle.model.specs.Shape.{low}
+use Rattle.model.specs.State.{Rules, lowKind, base, empty}
 use Rattle.model.specs.Bytes.{write}
 use Rattle.model.specs.Sound.{sizeGood}
 use Rattle.model.specs.Calls.{sized}
@@ -44,13 +45,13 @@ module _ (R : Rules) (rack text space : List ℕ) where
 
   -- by the board number
   abbrev sizes : Trace → Bool → Outcome
-  sizes t true = done (recordText R t) (write (after R (empty (t .n)) (t .changes)))
+  sizes t true = done (recordText R t) (write (after R (empty lowKind (t .n)) (t .changes)))
   sizes t false = back 5 0
 
   -- by the text: the record of a blank paper, that of its trace, or 5, or 4 with its first line that doesn't fit
   read : Kind text → Outcome
   read (blank-text e) = done blankRecord rack
-  read (trace-text t h) = sizes t (sizeGood (t .n))
+  read (trace-text t h) = sizes t (sizeGood low (t .n))
   read (bad-text k b) = back 4 k
 
   -- by the three lengths
@@ -62,7 +63,7 @@ module _ (R : Rules) (rack text space : List ℕ) where
 
   -- first fit first
   abbrev outcome : Outcome
-  outcome = chosen (sized rack) (ltb longest (length text)) (ltb (length space) spaceLength) (read (kind-of text))
+  outcome = chosen (sized low rack) (ltb longest (length text)) (ltb (length space) spaceLength) (read (kind-of text))
 
   read-blank : (d : Kind text) → text ≡ [] → read d ≡ done blankRecord rack
   unfolding read
@@ -70,10 +71,10 @@ module _ (R : Rules) (rack text space : List ℕ) where
   read-blank (trace-text t h) e = absurd (blank-no-trace text t e h)
   read-blank (bad-text k b) e = absurd (blank-no-bad text k e b)
 
-  read-holds : (d : Kind text) (t : Trace) → Holds text t → read d ≡ sizes t (sizeGood (t .n))
+  read-holds : (d : Kind text) (t : Trace) → Holds text t → read d ≡ sizes t (sizeGood low (t .n))
   unfolding read
   read-holds (blank-text e) t h = absurd (blank-no-trace text t e h)
-  read-holds (trace-text u g) t h = ap (λ (x : Trace). sizes x (sizeGood (x .n))) (trace-same text u t g h)
+  read-holds (trace-text u g) t h = ap (λ (x : Trace). sizes x (sizeGood low (x .n))) (trace-same text u t g h)
   read-holds (bad-text k b) t h = absurd (trace-fits text t k h b)
 
   read-bad : (d : Kind text) (k : ℕ) → FirstBad (linesOf text) k → read d ≡ back 4 k
@@ -83,7 +84,7 @@ module _ (R : Rules) (rack text space : List ℕ) where
   read-bad (bad-text j a) k b = ap (back 4) (first-bad-same (linesOf text) j k a b)
 
   -- the lengths are those that a run takes
-  taken : sized rack ≡ true → length text ≤ longest → spaceLength ≤ length space → outcome ≡ read (kind-of text)
+  taken : sized low rack ≡ true → length text ≤ longest → spaceLength ≤ length space → outcome ≡ read (kind-of text)
   unfolding chosen
   taken z s w =
       let p : ltb longest (length text) ≡ false = leb-no (suc longest) (length text) (omega (arith, s)) in

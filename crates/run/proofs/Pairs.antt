@@ -9,6 +9,7 @@ use native.Mathlib.Numerals.{add-one}
 use lib.Dec.{T, ltb, T-not}
 use lib.ListN.{length}
 use Rattle.model.specs.Counting.{listedOnto, listed}
+use Rattle.model.specs.Shape.{low}
 use Rattle.model.specs.State.{State}
 use Rattle.model.specs.Bytes.{rankAt, mateAt, read}
 use Rattle.model.specs.Text.{texts}
@@ -17,7 +18,7 @@ use Rattle.model.proofs.Tests.{eq?, bool?, T-true, T-false, true-T, leb-yes, le
 use Rattle.model.proofs.Limits.{mateEntry-free, mateEntry-mate}
 use Rattle.model.proofs.Lists.{listed-yes, listed-no}
 use Rattle.moves.specs.Proper.{Held}
-use Rattle.moves.proofs.Held.{held-rank, held-mate}
+use Rattle.moves.proofs.Held.{held-few, held-rank, held-mate, held-small}
 use Rattle.text.specs.Writing.{Put}
 use Rattle.text.specs.Rooms.{pairRoom, endRoom, endingRoom}
 use Rattle.text.proofs.Texts.{texts-snoc}
@@ -29,6 +30,7 @@ use Rattle.trace.proofs.RecordFits.{valid-small}
 use Rattle.changes.specs.Sounded.{Sounded}
 use Rattle.changes.proofs.Wholes.{sounded-held}
 use Rattle.run.specs.Recording.{pairPart}
+use Rattle.run.proofs.Turns.{sounded-valid}
 
 -- a text that stands there by a test
 pub shown : (b : Bool) (x : List ℕ) → T b → elim b [ true ↦ x | false ↦ [] ] ≡ x
@@ -70,86 +72,86 @@ pairs-suc s v =
           ∙ ap (λ (l : List ℕ). pairsTo s v ++ l) (sym (part-no s v e))
     ]
 
-module _ {bs : List ℕ} (ok : Sounded bs) {v : ℕ} (l : v < read bs .n) where
+module _ {bs : List ℕ} (ok : Sounded low bs) {v : ℕ} (l : v < read low bs .n) where
   abbrev s : State
-  s = read bs
+  s = read low bs
 
-  held : Held bs
+  held : Held low bs
   held = sounded-held bs ok
 
-  small : v < 256
-  small = omega (arith, ok .valid .few)
+  small : v < low .most
+  small = held-small held v l
 
-  pub part-free : mateAt bs v ≡ 65535 → pairPart (read bs) v ≡ []
+  pub part-free : mateAt low bs v ≡ 65535 → pairPart (read low bs) v ≡ []
   part-free e = elim (eq? (s .mate v) v) [
     | inl f ↦ part-no s v (leb-no (suc v) (s .mate v) (omega arith))
-    | inr f ↦ absurd (omega (arith, held-mate held v small, mateEntry-mate s v f, held .proper .mates v l, ok .valid .few))
+    | inr f ↦ absurd (omega (arith, held-mate held v small, mateEntry-mate s v f, held .proper .mates v l, held-few held))
   ]
 
-  pub part-upper : mateAt bs v ≤ v → pairPart (read bs) v ≡ []
+  pub part-upper : mateAt low bs v ≤ v → pairPart (read low bs) v ≡ []
   part-upper h = elim (eq? (s .mate v) v) [
     | inl f ↦ part-no s v (leb-no (suc v) (s .mate v) (omega arith))
     | inr f ↦ part-no s v (leb-no (suc v) (s .mate v) (omega (arith, held-mate held v small, mateEntry-mate s v f)))
   ]
 
   -- the entry of a lower vertex is its mate
-  module _ (d : mateAt bs v ≢ 65535) (h : v < mateAt bs v) where
+  module _ (d : mateAt low bs v ≢ 65535) (h : v < mateAt low bs v) where
     mated : s .mate v ≢ v
     mated f = d (held-mate held v small ∙ mateEntry-free s v f)
 
-    entry : mateAt bs v ≡ s .mate v
+    entry : mateAt low bs v ≡ s .mate v
     entry = held-mate held v small ∙ mateEntry-mate s v mated
 
     pub part-rank : 1 ≤ rankAt bs v
     part-rank = elim (eq? (s .rank v) 0) [ inl z ↦ absurd (mated (ok .valid .low-free v z)) | inr z ↦ omega (arith, held-rank held v small) ]
 
-    pub part-line : pairPart (read bs) v ≡ pairText v (mateAt bs v) (rankAt bs v - 1)
+    pub part-line : pairPart (read low bs) v ≡ pairText v (mateAt low bs v) (rankAt bs v - 1)
     part-line =
         part-yes s v (leb-yes (suc v) (s .mate v) (omega (arith, entry)))
         ∙ pair-line s v
         ∙ (λ i. pairText v (sym entry i) (sym (held-rank held v small) i - 1))
 
     -- it was printed, by the figures that were read
-    pub put-part : {x y z : ℕ} {old new : List ℕ} {r : ℕ} → x ≡ v → y ≡ mateAt bs v → z ≡ rankAt bs v - 1 → Put (pairText x y z) old new r
-        → Put (pairPart (read bs) v) old new r
+    pub put-part : {x y z : ℕ} {old new : List ℕ} {r : ℕ} → x ≡ v → y ≡ mateAt low bs v → z ≡ rankAt bs v - 1 → Put (pairText x y z) old new r
+        → Put (pairPart (read low bs) v) old new r
     put-part p q h w = put-as _ _ ((λ i. pairText (p i) (q i) (h i)) ∙ sym part-line) w
 
-  part-most : length (pairPart (read bs) v) ≤ pairRoom
+  part-most : length (pairPart (read low bs) v) ≤ pairRoom
   part-most =
       let p : ℕ → Bool = λ x. ltb x (s .mate x) in
       elim (bool? (p v)) [
-        | inl t ↦ omega (arith, ap length (part-yes s v (T-true {b = p v} t)), pair-most s v (valid-small s (ok .valid)) l)
+        | inl t ↦ omega (arith, ap length (part-yes s v (T-true {b = p v} t)), pair-most s v (valid-small s (sounded-valid ok)) l)
         | inr t ↦ omega (arith, ap length (part-no s v (T-false {b = p v} (T-not (p v) t))))
       ]
 
 -- The loop over the vertices: the lines of the pairs whose lower vertex is below v are written.
 pub record Listed (bs out₀ out : List ℕ) (at v : ℕ) : Type 0 where
-  pub inside : v ≤ read bs .n
+  pub inside : v ≤ read low bs .n
   pub few : at ≤ pairRoom * v
-  pub wrote : Put (pairsTo (read bs) v) out₀ out at
+  pub wrote : Put (pairsTo (read low bs) v) out₀ out at
 
 pub listed-start : (bs out : List ℕ) → Listed bs out out 0 0
 listed-start bs out = record {
   inside = omega arith;
   few = omega arith;
-  wrote = put-as _ _ (pairs-zero (read bs)) (put-none out);
+  wrote = put-as _ _ (pairs-zero (read low bs)) (put-none out);
 }
 
-module _ {bs out₀ : List ℕ} (ok : Sounded bs) (room : endingRoom ≤ length out₀) {out : List ℕ} {at v : ℕ} (g : Listed bs out₀ out at v) where
+module _ {bs out₀ : List ℕ} (ok : Sounded low bs) (room : endingRoom ≤ length out₀) {out : List ℕ} {at v : ℕ} (g : Listed bs out₀ out at v) where
   listed-within : at + endRoom ≤ length out₀
-  listed-within = omega (arith, g .inside, g .few, ok .valid .few, room)
+  listed-within = omega (arith, g .inside, g .few, held-few (sounded-held bs ok), room)
 
   pub listed-kept : length out ≡ length out₀
   listed-kept = put-kept (g .wrote) (omega (arith, listed-within))
 
   -- there is room for a line of v
-  pub listed-room : v < read bs .n → at + pairRoom ≤ length out
-  listed-room l = omega (arith, l, g .few, ok .valid .few, room, listed-kept)
+  pub listed-room : v < read low bs .n → at + pairRoom ≤ length out
+  listed-room l = omega (arith, l, g .few, held-few (sounded-held bs ok), room, listed-kept)
 
-  pub listed-turn : {last : List ℕ} {m : ℕ} → v < read bs .n → Put (pairPart (read bs) v) (part at out) last m
+  pub listed-turn : {last : List ℕ} {m : ℕ} → v < read low bs .n → Put (pairPart (read low bs) v) (part at out) last m
       → Listed bs out₀ (back at out last) (at + m) (v + 1)
   listed-turn l p =
-      let s = read bs in
+      let s = read low bs in
       let more = sym (pairs-suc s v) ∙ ap (pairsTo s) (sym (add-one v)) in
       record {
         inside = omega (arith, l);
@@ -158,8 +160,8 @@ module _ {bs out₀ : List ℕ} (ok : Sounded bs) (room : endingRoom ≤ length 
       }
 
   -- every vertex was looked at
-  pub listed-end : read bs .n ≤ v → Put (pairLines (read bs)) out₀ out at
+  pub listed-end : read low bs .n ≤ v → Put (pairLines (read low bs)) out₀ out at
   unfolding pairLines
   listed-end h =
-      let e : v ≡ read bs .n = omega (arith, g .inside, h) in
-      put-as _ _ (ap (pairsTo (read bs)) e) (g .wrote)
+      let e : v ≡ read low bs .n = omega (arith, g .inside, h) in
+      put-as _ _ (ap (pairsTo (read low bs)) e) (g .wrote)

@@ -10,10 +10,10 @@ use lib.Dec.{T, ltb, eqb, ltb→lt, eqb→eq, lt→ltb}
 use lib.ListN.{length, take, drop}
 use lib.Seq.{take-at}
 use Rattle.model.specs.Counting.{each}
-use Rattle.model.specs.State.{State, base, empty, edge, edges}
+use Rattle.model.specs.Shape.{Shape, low}
+use Rattle.model.specs.State.{State, lowKind, base, empty, edge, edges, pairs}
 use Rattle.model.specs.Bytes.{rankAt, mateAt, read, write}
 use Rattle.model.specs.Sound.{sizeGood}
-use Rattle.model.specs.Valid.{Valid}
 use Rattle.model.specs.Text.{bytes, decimal, over}
 use Rattle.model.specs.Change.{Change, Changed, change}
 use Rattle.model.specs.Calls.{ChangedBytes, changeBytes}
@@ -24,25 +24,27 @@ use Rattle.model.specs.Run.{Ran, rack-length, text-long, space-short, blank, ba
 use Rattle.model.proofs.Tests.{eq?, le?, true-T, and-intro, and-left, and-right, eqb-yes}
 use Rattle.model.proofs.Chunks.{each-ext, each-none, each-only}
 use Rattle.model.proofs.Lists.{listed-texts}
-use Rattle.model.proofs.Reading.{read-write}
 use Rattle.theory.specs.Demand.{lastRack, isPair, pairsOf, Mates, Call, Calls, Facts, Demand}
 use Rattle.theory.proofs.ChangeStep.{ledger}
-use Rattle.theory.proofs.OnBytes.{step, call-leaves, pairs-of}
+use Rattle.theory.proofs.OnBytes.{Rack, call-leaves, pairs-of}
 use Rattle.theory.proofs.LastRack.{last-facts}
 use Rattle.theory.proofs.ListTheorem.{next-ledger, from-valid}
 use Rattle.theory.proofs.Crowding.{crowding}
 use Rattle.text.proofs.Answers.{refused-line}
 use Rattle.record.specs.Line.{answered, pairText}
 use Rattle.changes.specs.Sounded.{Sounded}
-use Rattle.changes.proofs.Answered.{sounded-of}
+use Rattle.changes.proofs.Wholes.{sounded-held}
+use Rattle.moves.proofs.Held.{held-few}
+use Rattle.trace.proofs.RecordFits.{LowValid, low-keeps}
 use Rattle.run.specs.Recording.{pairPart, told}
 use Rattle.run.specs.declared.RunAnswer.{RunAnswer}
 use Rattle.run.specs.RunDemand.{freshLedger, answerBy, changesBy, pairsBy, endingBy, RunDemand, RunDemanded, of-blank, of-trace}
 use Rattle.run.proofs.Pairs.{shown, left-out, part-free, part-upper, part-line}
+use Rattle.run.proofs.Turns.{rack-of-low, sounded-read}
 use Rattle.run.proofs.Whole.{empty-good}
 
 -- A change's line is the ledger's: refused, it shows the number alone, and accepted, its pairs are the ledger's.
-line-by : {l : Ledger} {bs : List ℕ} {c : Change} {d : ChangedBytes} → Call l bs c d → answerLine (d .answer) ≡ answerLine (answerBy l c d)
+line-by : {l : Ledger} {bs : List ℕ} {c : Change} {d : ChangedBytes} → Call low l bs c d → answerLine (d .answer) ≡ answerLine (answerBy l c d)
 unfolding answerBy
 line-by {l} {bs} {c} {d} h = elim (eq? (ledgerNumber l c) 0) [
   | inl e ↦
@@ -56,107 +58,130 @@ line-by {l} {bs} {c} {d} h = elim (eq? (ledgerNumber l c) 0) [
 ]
 
 -- The lines of the pairs, vertex by vertex, in a sound rack of which the facts hold.
-module _ (l : Ledger) (bs : List ℕ) (ok : Sounded bs) (F : Facts l bs) where
-  size-is : read bs .n ≡ l .n
+module _ (l : Ledger) (bs : List ℕ) (ok : Sounded low bs) (F : Facts low l bs) where
+  size-is : read low bs .n ≡ l .n
   size-is = unfold read in F .size
 
   -- the line of the edge v-w, if it is a pair
   abbrev line : ℕ → ℕ → List ℕ
-  line v w = elim (isPair l bs v w) [ true ↦ pairText v w (rankAt bs v - 1) | false ↦ [] ]
+  line v w = elim (isPair low l bs v w) [ true ↦ pairText v w (rankAt bs v - 1) | false ↦ [] ]
 
   -- a pair of v is v's mate, above v
-  mate-of : (v w : ℕ) → T (isPair l bs v w) → (v < w) × (mateAt bs v ≡ w)
+  mate-of : (v w : ℕ) → T (isPair low l bs v w) → (v < w) × (mateAt low bs v ≡ w)
   mate-of v w t = (
     ltb→lt v w (and-left (ltb v w) _ t),
-    eqb→eq (mateAt bs v) w (and-left (eqb (mateAt bs v) w) _ (and-right (l .there v w) _ (and-right (ltb v w) _ t))),
+    eqb→eq (mateAt low bs v) w (and-left (eqb (mateAt low bs v) w) _ (and-right (l .there v w) _ (and-right (ltb v w) _ t))),
   )
 
-  none : (v w : ℕ) → (T (isPair l bs v w) → ⊥) → line v w ≡ []
-  none v w h = left-out (isPair l bs v w) _ h
+  none : (v w : ℕ) → (T (isPair low l bs v w) → ⊥) → line v w ≡ []
+  none v w h = left-out (isPair low l bs v w) _ h
 
   -- v's mate, above v, is a pair of v
-  pair-of : (v : ℕ) → v < l .n → mateAt bs v ≢ 65535 → v < mateAt bs v → T (isPair l bs v (mateAt bs v))
+  pair-of : (v : ℕ) → v < l .n → mateAt low bs v ≢ 65535 → v < mateAt low bs v → T (isPair low l bs v (mateAt low bs v))
   pair-of v b d h =
-      let m : ℕ = mateAt bs v in
-      let M : Mates l bs v m = F .mates v b d in
+      let m : ℕ = mateAt low bs v in
+      let M : Mates low l bs v m = F .mates v b d in
       and-intro (ltb v m) _ (lt→ltb v m h)
       (and-intro (l .there v m) _ (M .linked)
-      (and-intro (eqb m m) _ (true-T (eqb-yes m m refl)) (true-T (eqb-yes (mateAt bs m) v (M .back)))))
+      (and-intro (eqb m m) _ (true-T (eqb-yes m m refl)) (true-T (eqb-yes (mateAt low bs m) v (M .back)))))
 
-  lines-of : (v : ℕ) → v < l .n → pairPart (read bs) v ≡ each (l .n) (line v)
+  lines-of : (v : ℕ) → v < l .n → pairPart (read low bs) v ≡ each (l .n) (line v)
   lines-of v b =
-      let c : v < read bs .n = omega (arith, size-is) in
-      elim (eq? (mateAt bs v) 65535) [
+      let c : v < read low bs .n = omega (arith, size-is) in
+      elim (eq? (mateAt low bs v) 65535) [
         | inl e ↦ part-free ok c e
-            ∙ sym (each-none (line v) (l .n) (λ w k. none v w (λ t. omega (arith, mate-of v w t .1, size-is, ok .valid .few))))
-        | inr d ↦ elim (le? (mateAt bs v) v) [
+            ∙ sym (each-none (line v) (l .n) (λ w k. none v w (λ t. omega (arith, mate-of v w t .1, size-is, held-few (sounded-held bs ok)))))
+        | inr d ↦ elim (le? (mateAt low bs v) v) [
           | inl h ↦ part-upper ok c h ∙ sym (each-none (line v) (l .n) (λ w k. none v w (λ t. omega (arith, mate-of v w t))))
           | inr h ↦
               let t = pair-of v b d h in
               part-line ok c d h
-              ∙ sym (shown (isPair l bs v (mateAt bs v)) _ t)
-              ∙ sym (each-only (line v) (mateAt bs v) (l .n) (F .inside v (mateAt bs v) (F .mates v b d .linked) .1)
+              ∙ sym (shown (isPair low l bs v (mateAt low bs v)) _ t)
+              ∙ sym (each-only (line v) (mateAt low bs v) (l .n) (F .inside v (mateAt low bs v) (F .mates v b d .linked) .1)
               (λ w k ne. none v w (λ u. ne (sym (mate-of v w u .1)))))
         ]
       ]
 
-  pairs-by : pairLines (read bs) ≡ pairsBy l bs
+  pairs-by : pairLines (read low bs) ≡ pairsBy l bs
   unfolding pairLines pairsBy pairPart
   pairs-by =
-      listed-texts (pairLine (read bs)) (λ v. ltb v (read bs .mate v)) (read bs .n)
-      ∙ each-ext _ _ (read bs .n) (λ v b. lines-of v (omega (arith, size-is)))
+      listed-texts (pairLine (read low bs)) (λ v. ltb v (read low bs .mate v)) (read low bs .n)
+      ∙ each-ext _ _ (read low bs .n) (λ v b. lines-of v (omega (arith, size-is)))
       ∙ ap (λ (k : ℕ). each k (λ v. each (l .n) (line v))) size-is
 
 -- The record of a list of changes, from the bytes of a valid state, with its own ledger.
-ending-by : (s : State) → Valid base s → pairLines s ++ endLine s ≡ endingBy (ledger s) (write s)
+
+-- what `theory` says of it, at the shape that it has
+module _ (s : State) (ok : LowValid s) where
+  rack : Rack s
+  rack = rack-of-low s ok
+
+  facts-of : Facts low (ledger s) (write s)
+  facts-of = subst (λ (S : Shape). Facts S (ledger s) (write s)) (ok .shape) (last-facts s rack)
+
+  pairs-low : pairs s ≡ pairsOf low (ledger s) (write s)
+  pairs-low = subst (λ (S : Shape). pairs s ≡ pairsOf S (ledger s) (write s)) (ok .shape) (pairs-of s rack)
+
+  -- what a change of it answers, the bytes that it leaves, and its new pairs
+  abbrev leaves : Change → ChangedBytes
+  leaves c = let d = change base s c in record { answer = d .answer; rack = write (d .state); news = d .news }
+
+  leaves-low : (c : Change) → changeBytes base low (write s) c ≡ leaves c
+  leaves-low c = subst (λ (S : Shape). changeBytes base S (write s) c ≡ leaves c) (ok .shape) (call-leaves s rack c)
+
+  demand-of : (cs : List Change) → Demand low (ledger s) (write s) cs
+  demand-of cs = subst (λ (S : Shape). Demand S (ledger s) (write s) cs) (ok .shape) (from-valid s rack cs)
+
+ending-by : (s : State) → LowValid s → pairLines s ++ endLine s ≡ endingBy (ledger s) (write s)
 unfolding endingBy edges links
 ending-by s ok =
     let p : pairLines s ≡ pairsBy (ledger s) (write s) =
-    ap pairLines (sym (read-write base s ok)) ∙ pairs-by (ledger s) (write s) (sounded-of (write s) s refl ok) (last-facts s ok) in
-    let e : endLine s ≡ endText (pairsOf (ledger s) (write s)) (mean (links (ledger s)) (s .n)) =
-    ap (λ (k : ℕ). endText k (mean (edges s) (s .n))) (pairs-of s ok) in
+    let r = sounded-read (write s) s refl ok in
+    ap pairLines (sym (r .1)) ∙ pairs-by (ledger s) (write s) (r .0) (facts-of s ok) in
+    let e : endLine s ≡ endText (pairsOf low (ledger s) (write s)) (mean (links (ledger s)) (s .n)) =
+    ap (λ (k : ℕ). endText k (mean (edges s) (s .n))) (pairs-low s ok) in
     λ i. p i ++ e i
 
-last-by : (s : State) → Valid base s → (cs : List Change) → write (after base s cs) ≡ lastRack (write s) cs
+last-by : (s : State) → LowValid s → (cs : List Change) → write (after base s cs) ≡ lastRack low (write s) cs
 unfolding after lastRack
 last-by s ok [] = refl
 last-by s ok (c ∷ cs) =
-    last-by (change base s c .state) (step s ok c .valid) cs
-    ∙ ap (λ (x : ChangedBytes). lastRack (x .rack) cs) (sym (call-leaves s ok c))
+    last-by (change base s c .state) (low-keeps s c ok) cs
+    ∙ ap (λ (x : ChangedBytes). lastRack low (x .rack) cs) (sym (leaves-low s ok c))
 
-changes-by : (s : State) → Valid base s → (cs : List Change)
-    → changesText base s cs ≡ changesBy (ledger s) (write s) cs ++ endingBy (enteredAll (ledger s) cs) (lastRack (write s) cs)
+changes-by : (s : State) → LowValid s → (cs : List Change)
+    → changesText base s cs ≡ changesBy (ledger s) (write s) cs ++ endingBy (enteredAll (ledger s) cs) (lastRack low (write s) cs)
 unfolding changesText changesBy enteredAll lastRack Calls
 changes-by s ok [] = ending-by s ok
 changes-by s ok (c ∷ cs) =
     let d : Changed = change base s c in
-    let x : ChangedBytes = changeBytes base (write s) c in
-    let e : ledger (d .state) ≡ entered (ledger s) c = sym (next-ledger s ok c) in
-    let f : write (d .state) ≡ x .rack = ap (λ (y : ChangedBytes). y .rack) (sym (call-leaves s ok c)) in
+    let x : ChangedBytes = changeBytes base low (write s) c in
+    let e : ledger (d .state) ≡ entered (ledger s) c = sym (next-ledger s (rack s ok) c) in
+    let f : write (d .state) ≡ x .rack = ap (λ (y : ChangedBytes). y .rack) (sym (leaves-low s ok c)) in
     let now : answerLine (d .answer) ≡ answerLine (answerBy (ledger s) c x) =
-    ap (λ (y : ChangedBytes). answerLine (y .answer)) (sym (call-leaves s ok c)) ∙ line-by (from-valid s ok (c ∷ []) .calls .0) in
+    ap (λ (y : ChangedBytes). answerLine (y .answer)) (sym (leaves-low s ok c)) ∙ line-by (demand-of s ok (c ∷ []) .calls .0) in
     let later : changesText base (d .state) cs
-    ≡ changesBy (entered (ledger s) c) (x .rack) cs ++ endingBy (enteredAll (entered (ledger s) c) cs) (lastRack (x .rack) cs) =
-    changes-by (d .state) (step s ok c .valid) cs
-    ∙ (λ i. changesBy (e i) (f i) cs ++ endingBy (enteredAll (e i) cs) (lastRack (f i) cs)) in
+    ≡ changesBy (entered (ledger s) c) (x .rack) cs ++ endingBy (enteredAll (entered (ledger s) c) cs) (lastRack low (x .rack) cs) =
+    changes-by (d .state) (low-keeps s c ok) cs
+    ∙ (λ i. changesBy (e i) (f i) cs ++ endingBy (enteredAll (e i) cs) (lastRack low (f i) cs)) in
     (λ i. now i ++ later i) ∙ sym (append-assoc (answerLine (answerBy (ledger s) c x)) (changesBy (entered (ledger s) c) (x .rack) cs) _)
 
 -- A trace of 1 to 256 vertices, run from a fresh rack.
-run-demand : (t : Trace) → sizeGood (t .n) ≡ true → RunDemand t (write (after base (empty (t .n)) (t .changes))) (recordText base t)
+run-demand : (t : Trace) → sizeGood low (t .n) ≡ true → RunDemand t (write (after base (empty lowKind (t .n)) (t .changes))) (recordText base t)
 unfolding recordText freshLedger empty edge
 run-demand t e =
     let ok = empty-good (t .n) e in
-    let D : Demand (freshLedger (t .n)) (write (empty (t .n))) (t .changes) = from-valid (empty (t .n)) ok (t .changes) in
-    let left = last-by (empty (t .n)) ok (t .changes) in
+    let D : Demand low (freshLedger (t .n)) (write (empty lowKind (t .n))) (t .changes) = demand-of (empty lowKind (t .n)) ok (t .changes) in
+    let left = last-by (empty lowKind (t .n)) ok (t .changes) in
     let book : Ledger = enteredAll (freshLedger (t .n)) (t .changes) in
-    let lines : List ℕ = changesBy (freshLedger (t .n)) (write (empty (t .n))) (t .changes) in
+    let lines : List ℕ = changesBy (freshLedger (t .n)) (write (empty lowKind (t .n))) (t .changes) in
     record {
       demand = D;
       left = left;
-      facts = subst (Facts book) (sym left) (D .last);
-      crowded = crowding book (lastRack (write (empty (t .n))) (t .changes)) (D .last);
+      facts = subst (Facts low book) (sym left) (D .last);
+      crowded = crowding book (lastRack low (write (empty lowKind (t .n))) (t .changes)) (D .last);
       says =
-          ap (λ (x : List ℕ). rackLine (t .n) ++ x) (changes-by (empty (t .n)) ok (t .changes))
+          ap (λ (x : List ℕ). rackLine (t .n) ++ x) (changes-by (empty lowKind (t .n)) ok (t .changes))
           ∙ ap (λ (x : List ℕ). rackLine (t .n) ++ (lines ++ endingBy book x)) (sym left);
     }
 
@@ -174,7 +199,7 @@ of-ran {space = space} (blank z t w) e = of-blank t refl (front blankRecord spac
 of-ran (bad-line z s w b) e = absurd (omega arith)
 of-ran (bad-size z s w h g) e = absurd (omega arith)
 of-ran {space = space} (ran {t} z s w h g) e =
-    of-trace t h (subst (RunDemand t (write (after base (empty (t .n)) (t .changes)))) (sym (front (recordText base t) space)) (run-demand t g))
+    of-trace t h (subst (RunDemand t (write (after base (empty lowKind (t .n)) (t .changes)))) (sym (front (recordText base t) space)) (run-demand t g))
 
 -- Whatever bytes `run::run` was lent: if it answers 0, the text is blank, and the rack stays and the record says no pair; or the text holds a
 -- trace, and the record that it tells of, and the rack, are as demand 3 says of that trace.

@@ -7,14 +7,13 @@ use native.Mathlib.Omega.{arith}
 use lib.ListN.{length, getD, take, drop, length-append, length-drop}
 use lib.Seq.{getD-drop, drop-drop, take-at, drop-at}
 use native.Mathlib.Nat.{add-zero}
+use Rattle.model.specs.Shape.{low}
 use Rattle.model.specs.State.{State, base}
 use Rattle.model.specs.Bytes.{read, write}
-use Rattle.model.specs.Valid.{Valid}
 use Rattle.model.specs.Text.{texts}
 use Rattle.model.specs.Change.{Change, Answer, change}
 use Rattle.model.specs.Record.{answerLine, after, changesText}
-use Rattle.model.proofs.Reading.{read-write}
-use Rattle.theory.proofs.OnBytes.{step}
+use Rattle.theory.proofs.OnBytes.{Rack, low-rack}
 use Rattle.text.specs.Writing.{Put}
 use Rattle.text.specs.Rooms.{answerRoom, endingRoom}
 use Rattle.text.proofs.Over.{part, back, put-as, put-none, put-then, put-length}
@@ -23,15 +22,25 @@ use Rattle.record.specs.Line.{answered}
 use Rattle.trace.specs.Check.{headOf, wordsOf, HeadAt, Kept}
 use Rattle.trace.specs.declared.Head.{Head}
 use Rattle.trace.proofs.Bound.{ending-most}
-use Rattle.trace.proofs.RecordFits.{valid-small, valid-figures}
+use Rattle.trace.proofs.RecordFits.{LowValid, low-keeps, valid-small, valid-figures}
 use Rattle.changes.specs.declared.Answer.{Answer as Answered}
 use Rattle.changes.specs.Sounded.{Sounded, Answers, brought}
-use Rattle.changes.proofs.Answered.{sounded-of}
+use Rattle.changes.proofs.Answered.{rack-reads, sounded-of}
 use Rattle.run.specs.Recording.{endingText, Ready, Played}
 
 -- bytes that write a valid state are sound, and reading them gives it again
-pub sounded-read : (bs : List ℕ) (s : State) → bs ≡ write s → Valid base s → Sounded bs × (read bs ≡ s)
-sounded-read bs s e ok = (sounded-of bs s e ok, ap read e ∙ read-write base s ok)
+pub rack-of-low : (s : State) → LowValid s → Rack s
+rack-of-low s ok = low-rack s (sym (ok .shape)) (ok .valid)
+
+pub sounded-read : (bs : List ℕ) (s : State) → bs ≡ write s → LowValid s → Sounded low bs × (read low bs ≡ s)
+sounded-read bs s e ok =
+    let rack = rack-of-low s ok in
+    (sounded-of bs s (ok .shape) e rack, rack-reads bs s (ok .shape) e rack)
+
+-- and sound bytes read as one
+pub sounded-valid : {bs : List ℕ} → Sounded low bs → LowValid (read low bs)
+unfolding read
+sounded-valid ok = record { shape = refl; valid = ok .valid }
 
 -- an answer's line was written by figures that are the answer's
 pub line-as : {r : Answered} {x : Answer} {old new : List ℕ} {k : ℕ} → Answers r x
@@ -39,7 +48,7 @@ pub line-as : {r : Answered} {x : Answer} {old new : List ℕ} {k : ℕ} → Ans
 line-as a w = put-as _ _ (λ i. answerLine (answered (a .number i) (a .draws i) (a .falls i) (a .pairs i))) w
 
 -- the lines after those of the changes have room
-ending-fits : (s : State) → Valid base s → length (endingText s) ≤ endingRoom
+ending-fits : (s : State) → LowValid s → length (endingText s) ≤ endingRoom
 unfolding endingText
 ending-fits s ok = ending-most s (valid-small s ok)
 
@@ -55,14 +64,14 @@ pub record Going (heads words : List ℕ) (n : ℕ) (rack₀ rack out₀ out : L
   pub heads-are : drop (4 * k) heads ≡ texts headOf rest ++ heads-rest
   pub words-rest : List ℕ
   pub words-are : drop w words ≡ texts wordsOf rest ++ words-rest
-  pub sounded : Sounded rack
-  pub leaves : after base (read rack₀) changes ≡ after base (read rack) rest
+  pub sounded : Sounded low rack
+  pub leaves : after base (read low rack₀) changes ≡ after base (read low rack) rest
   pub done : List ℕ
   pub wrote : Put done out₀ out at
-  pub whole : changesText base (read rack₀) changes ≡ done ++ changesText base (read rack) rest
+  pub whole : changesText base (read low rack₀) changes ≡ done ++ changesText base (read low rack) rest
   pub room : at + answerRoom * length rest + endingRoom ≤ length out₀
 
-pub going-start : (heads words : List ℕ) (n : ℕ) (rack out : List ℕ) → Sounded rack → Ready heads words n (length out)
+pub going-start : (heads words : List ℕ) (n : ℕ) (rack out : List ℕ) → Sounded low rack → Ready heads words n (length out)
     → Going heads words n rack rack out out 0 0 0
 going-start heads words n rack out ok r = record {
   changes = r .changes;
@@ -163,21 +172,21 @@ module _ {heads words rack₀ rack out₀ out : List ℕ} {n k w at : ℕ} (g : 
 
     -- the change was made, and its line written
     pub going-turn : {h : Head} {now last : List ℕ} {m : ℕ} → HeadAt heads k h
-        → let x = change base (read rack) (brought (h .code) (h .a) (h .b) (take (w + h .count - w) (drop w words))) in
+        → let x = change base (read low rack) (brought (h .code) (h .a) (h .b) (take (w + h .count - w) (drop w words))) in
         (now ≡ write (x .state)) × Put (answerLine (x .answer)) (part at out) last m
         → Going heads words n rack₀ now out₀ (back at out last) (k + 1) (w + h .count) (at + m)
     unfolding texts after changesText
     going-turn {now = now} {m = m} r made =
         let c : Change = t .change in
-        let s : State = read rack in
+        let s : State = read low rack in
         let is = head-brings (t .next) r in
         let z = head-size (t .next) r in
         let e : now ≡ write (change base s c .state) = made .0 ∙ ap (λ (x : Change). write (change base s x .state)) is in
         let line : List ℕ = answerLine (change base s c .answer) in
         let p = put-as _ line (ap (λ (x : Change). answerLine (change base s x .answer)) is) (made .1) in
-        let (ok, b) = sounded-read now (change base s c .state) e (step s (g .sounded .valid) c .valid) in
+        let (ok, b) = sounded-read now (change base s c .state) e (low-keeps s c (sounded-valid (g .sounded))) in
         let four : 4 * (k + 1) ≡ 4 * k + 4 = omega arith in
-        let few : m ≤ answerRoom = omega (arith, p .count, answer-most _ (valid-figures s c (g .sounded .valid))) in
+        let few : m ≤ answerRoom = omega (arith, p .count, answer-most _ (valid-figures s c (sounded-valid (g .sounded)))) in
         record {
           changes = g .changes;
           kept = g .kept;
@@ -214,19 +223,19 @@ module _ {heads words rack₀ rack out₀ out : List ℕ} {n k w at : ℕ} (g : 
       go (c ∷ cs) e = absurd (omega (arith, g .left, ap length e, h))
 
   -- the lines after those of the changes were written
-  module _ {last : List ℕ} {m : ℕ} (p : Put (endingText (read rack)) (part at out) last m) where
+  module _ {last : List ℕ} {m : ℕ} (p : Put (endingText (read low rack)) (part at out) last m) where
     pub end-within : at + m ≤ length out₀
-    end-within = omega (arith, g .room, p .count, ending-fits (read rack) (g .sounded .valid))
+    end-within = omega (arith, g .room, p .count, ending-fits (read low rack) (sounded-valid (g .sounded)))
 
     pub going-end : n ≤ k → Played heads words n rack₀ rack out₀ (back at out last) (at + m)
     unfolding after changesText endingText
     going-end h =
         let e = rest-none h in
-        let whole = g .whole ∙ ap (λ (l : List Change). g .done ++ changesText base (read rack) l) e in
+        let whole = g .whole ∙ ap (λ (l : List Change). g .done ++ changesText base (read low rack) l) e in
         record {
           changes = g .changes;
           kept = g .kept;
           count = g .count;
-          leaves = g .sounded .written ∙ ap write (sym (g .leaves ∙ ap (after base (read rack)) e));
+          leaves = g .sounded .written ∙ ap write (sym (g .leaves ∙ ap (after base (read low rack)) e));
           prints = put-as _ _ (sym whole) (put-then (g .wrote) p done-within);
         }

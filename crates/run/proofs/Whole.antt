@@ -7,11 +7,11 @@ use Prim.Native.Nat.{ℕ, _+_, _≤_}
 use native.Mathlib.Omega.{arith}
 use lib.Dec.{leb, leb→le}
 use lib.ListN.{length, length-append}
-use Rattle.model.specs.State.{State, base, empty}
-use Rattle.model.specs.Bytes.{most, read, write}
+use Rattle.model.specs.Shape.{low}
+use Rattle.model.specs.State.{State, lowKind, base, empty}
+use Rattle.model.specs.Bytes.{read, write}
 use Rattle.model.specs.Sound.{sizeGood}
 use Rattle.model.specs.Calls.{sized, makeNumber, made}
-use Rattle.model.specs.Valid.{Valid}
 use Rattle.model.specs.Change.{Change}
 use Rattle.model.specs.Trace.{Holds, rackLine}
 use Rattle.model.specs.Record.{after, changesText, recordText, blankRecord}
@@ -21,7 +21,7 @@ use Rattle.theory.proofs.Matching.{base-pos, empty-valid}
 use Rattle.text.specs.Writing.{Put}
 use Rattle.text.proofs.Over.{part, back, put-as, put-then, put-kept, length-part}
 use Rattle.trace.proofs.Bound.{space-enough, changes-most}
-use Rattle.trace.proofs.RecordFits.{bounded}
+use Rattle.trace.proofs.RecordFits.{LowValid, bounded}
 use Rattle.engine.proofs.Numbers.{make-five, make-new}
 use Rattle.changes.specs.Sounded.{Sounded}
 use Rattle.trace.specs.Check.{Checks}
@@ -32,18 +32,19 @@ use Rattle.run.specs.Recording.{Ready, Played, Recordable, Written, Took
 use Rattle.run.proofs.Turns.{sounded-read}
 
 -- "n is 1 to 256"
-pub size-range : (n : ℕ) → sizeGood n ≡ true → (1 ≤ n) × (n ≤ most)
+pub size-range : (n : ℕ) → sizeGood low n ≡ true → (1 ≤ n) × (n ≤ low .most)
 unfolding sizeGood
 size-range n e =
     let t = true-T e in
-    (leb→le 1 n (and-left (leb 1 n) (leb n most) t), leb→le n most (and-right (leb 1 n) (leb n most) t))
+    (leb→le 1 n (and-left (leb 1 n) (leb n (low .most)) t), leb→le n (low .most) (and-right (leb 1 n) (leb n (low .most)) t))
 
-pub empty-good : (n : ℕ) → sizeGood n ≡ true → Valid base (empty n)
-empty-good n e = let r = size-range n e in empty-valid base base-pos n (r .0) (r .1)
+pub empty-good : (n : ℕ) → sizeGood low n ≡ true → LowValid (empty lowKind n)
+unfolding empty
+empty-good n e = let r = size-range n e in record { shape = refl; valid = empty-valid base lowKind base-pos n (r .0) (r .1) }
 
 -- the rack just made
-pub fresh : (bs : List ℕ) (n : ℕ) → sizeGood n ≡ true → bs ≡ write (empty n) → Sounded bs × (read bs ≡ empty n)
-fresh bs n e w = sounded-read bs (empty n) w (empty-good n e)
+pub fresh : (bs : List ℕ) (n : ℕ) → sizeGood low n ≡ true → bs ≡ write (empty lowKind n) → Sounded low bs × (read low bs ≡ empty lowKind n)
+fresh bs n e w = sounded-read bs (empty lowKind n) w (empty-good n e)
 
 -- line 1 was printed, where there is room for the record
 module _ {heads words old w : List ℕ} {c n k : ℕ} (t : Recordable heads words c n (length old)) (p : Put (rackLine n) old w k) where
@@ -62,7 +63,7 @@ module _ {heads words old w : List ℕ} {c n k : ℕ} (t : Recordable heads word
   }
 
   -- line 1 and what was played after it are the record
-  pub written : {rack last new : List ℕ} {r : ℕ} → read rack ≡ empty n → Played heads words c rack last (part k w) new r
+  pub written : {rack last new : List ℕ} {r : ℕ} → read low rack ≡ empty lowKind n → Played heads words c rack last (part k w) new r
       → Written heads words c n last old (back k w new) (k + r)
   unfolding recordText
   written e g =
@@ -76,7 +77,7 @@ module _ {heads words old w : List ℕ} {c n k : ℕ} (t : Recordable heads word
       }
 
 -- the record that was printed fits
-pub record-within : {heads words last old new : List ℕ} {c n r : ℕ} → sizeGood n ≡ true → Recordable heads words c n (length old)
+pub record-within : {heads words last old new : List ℕ} {c n r : ℕ} → sizeGood low n ≡ true → Recordable heads words c n (length old)
     → (w : Written heads words c n last old new r) → r ≤ length old
 unfolding recordText
 record-within {n = n} e t w =
@@ -85,25 +86,25 @@ record-within {n = n} e t w =
       t .enough,
       w .count,
       w .prints .count,
-      length-append (rackLine n) (changesText base (empty n) (w .changes)),
-      changes-most base (Valid base) bounded (empty n) (w .changes) (empty-good n e),
+      length-append (rackLine n) (changesText base (empty lowKind n) (w .changes)),
+      changes-most base LowValid bounded (empty lowKind n) (w .changes) (empty-good n e),
     )
 
 -- Making: n is one of the paper's board numbers, or it isn't.
-module _ (bs : List ℕ) (n : ℕ) {last : List ℕ} {r : ℕ} (z : sized bs ≡ true) (m : (r ≡ makeNumber bs n) × (last ≡ made bs n)) where
-  pub made-none : r ≢ 0 → (sizeGood n ≡ false) × (last ≡ bs)
-  made-none d = go (sizeGood n) refl
+module _ (bs : List ℕ) (n : ℕ) {last : List ℕ} {r : ℕ} (z : sized low bs ≡ true) (m : (r ≡ makeNumber low bs n) × (last ≡ made lowKind bs n)) where
+  pub made-none : r ≢ 0 → (sizeGood low n ≡ false) × (last ≡ bs)
+  made-none d = go (sizeGood low n) refl
     where
-      go : (b : Bool) → sizeGood n ≡ b → (sizeGood n ≡ false) × (last ≡ bs)
-      go true e = absurd (d (m .0 ∙ make-new bs n z e .0))
-      go false e = (e, m .1 ∙ make-five bs n z e .1)
+      go : (b : Bool) → sizeGood low n ≡ b → (sizeGood low n ≡ false) × (last ≡ bs)
+      go true e = absurd (d (m .0 ∙ make-new low bs n z e .0))
+      go false e = (e, m .1 ∙ make-five low bs n z e .1)
 
-  pub made-new : r ≡ 0 → (sizeGood n ≡ true) × (last ≡ write (empty n))
-  made-new d = go (sizeGood n) refl
+  pub made-new : r ≡ 0 → (sizeGood low n ≡ true) × (last ≡ write (empty lowKind n))
+  made-new d = go (sizeGood low n) refl
     where
-      go : (b : Bool) → sizeGood n ≡ b → (sizeGood n ≡ true) × (last ≡ write (empty n))
-      go true e = (e, m .1 ∙ make-new bs n z e .1)
-      go false e = absurd (omega (arith, m .0, make-five bs n z e .0))
+      go : (b : Bool) → sizeGood low n ≡ b → (sizeGood low n ≡ true) × (last ≡ write (empty lowKind n))
+      go true e = (e, m .1 ∙ make-new low bs n z e .1)
+      go false e = absurd (omega (arith, m .0, make-five low bs n z e .0))
 
 -- The answers.
 
@@ -117,17 +118,17 @@ ran-back {rack} {text} {space} {last} {new} {a = a} h p q r =
     subst (λ (x : RunAnswer). Ran base rack text space x last new) (sym (answer-of a p q r)) h
 
 -- 5 and every byte as it was, or the record
-pub took-none : (heads words : List ℕ) (c n : ℕ) {rack space last new : List ℕ} {a : RunAnswer} → sizeGood n ≡ false
-    → a .number ≡ 5 → a .line ≡ 0 → a .length ≡ 0 → last ≡ rack → new ≡ space → Took (sizeGood n) heads words c n rack space a last new
+pub took-none : (heads words : List ℕ) (c n : ℕ) {rack space last new : List ℕ} {a : RunAnswer} → sizeGood low n ≡ false
+    → a .number ≡ 5 → a .line ≡ 0 → a .length ≡ 0 → last ≡ rack → new ≡ space → Took (sizeGood low n) heads words c n rack space a last new
 took-none heads words c n {a = a} e p q r f g = rw e (answer-of a p q r, f, g)
 
-pub took-record : (rack : List ℕ) {heads words space last new : List ℕ} {c n k : ℕ} {a : RunAnswer} → sizeGood n ≡ true
-    → a .number ≡ 0 → a .line ≡ 0 → a .length ≡ k → Written heads words c n last space new k → Took (sizeGood n) heads words c n rack space a last new
+pub took-record : (rack : List ℕ) {heads words space last new : List ℕ} {c n k : ℕ} {a : RunAnswer} → sizeGood low n ≡ true
+    → a .number ≡ 0 → a .line ≡ 0 → a .length ≡ k → Written heads words c n last space new k → Took (sizeGood low n) heads words c n rack space a last new
 took-record rack {heads} {words} {space} {last} {new} {c} {n} e p q r w = rw e (p, q, subst (Written heads words c n last space new) (sym r) w)
 
 -- the lengths of what is lent are those that a run takes
 pub record Lent (rack text space : List ℕ) : Type 0 where
-  pub whole : sized rack ≡ true
+  pub whole : sized low rack ≡ true
   pub short : length text ≤ longest
   pub wide : spaceLength ≤ length space
 
@@ -153,10 +154,10 @@ module _ {rack text space : List ℕ} (heads words : List ℕ) {c n : ℕ} {x : 
       record { changes = cs; kept = kept; count = count; enough = omega (arith, count, g .wide, enough) }
 
   -- 5, or its record
-  pub took : {a : RunAnswer} {last new : List ℕ} → Took (sizeGood n) heads words c n rack space a last new → Ran base rack text space a last new
-  took {a} {last} {new} = go (sizeGood n) refl
+  pub took : {a : RunAnswer} {last new : List ℕ} → Took (sizeGood low n) heads words c n rack space a last new → Ran base rack text space a last new
+  took {a} {last} {new} = go (sizeGood low n) refl
     where
-      go : (b : Bool) → sizeGood n ≡ b → Took b heads words c n rack space a last new → Ran base rack text space a last new
+      go : (b : Bool) → sizeGood low n ≡ b → Took b heads words c n rack space a last new → Ran base rack text space a last new
       go false f t =
           subst₃ (Ran base rack text space) (sym (t .0)) (sym (t .1)) (sym (t .2))
           (bad-size (g .whole) (g .short) (g .wide) (checked .1) f)

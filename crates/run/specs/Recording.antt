@@ -5,7 +5,8 @@ use mathlib.Core.List.{List, [], _++_}
 use Prim.Native.Nat.{ℕ, _+_, _*_, _≤_}
 use lib.Dec.{ltb}
 use lib.ListN.{length}
-use Rattle.model.specs.State.{State, base, empty}
+use Rattle.model.specs.Shape.{low}
+use Rattle.model.specs.State.{State, base, lowKind, empty}
 use Rattle.model.specs.Bytes.{read, write}
 use Rattle.model.specs.Change.{Change}
 use Rattle.model.specs.Trace.{rackLine}
@@ -36,8 +37,8 @@ pub record Played (heads words : List ℕ) (n : ℕ) (rack last old new : List �
   pub changes : List Change
   pub kept : Kept heads words changes
   pub count : n ≡ length changes
-  pub leaves : last ≡ write (after base (read rack) changes)
-  pub prints : Put (changesText base (read rack) changes) old new r
+  pub leaves : last ≡ write (after base (read low rack) changes)
+  pub prints : Put (changesText base (read low rack) changes) old new r
 
 -- as many changes are kept, and there is room for the record of a trace of n vertices with them
 pub record Recordable (heads words : List ℕ) (k n room : ℕ) : Type 0 where
@@ -51,7 +52,7 @@ pub record Written (heads words : List ℕ) (k n : ℕ) (last old new : List ℕ
   pub changes : List Change
   pub kept : Kept heads words changes
   pub count : k ≡ length changes
-  pub leaves : last ≡ write (after base (empty n) changes)
+  pub leaves : last ≡ write (after base (empty lowKind n) changes)
   pub prints : Put (recordText base (record { n = n; changes = changes })) old new r
 
 -- by whether n is one of the paper's board numbers: the record, or 5 with every byte as it was

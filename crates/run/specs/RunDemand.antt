@@ -6,7 +6,8 @@ use mathlib.Core.Bool.{true, false}
 use mathlib.Core.List.{List, [], _∷_, _++_}
 use Prim.Native.Nat.{ℕ, _-_}
 use Rattle.model.specs.Counting.{each}
-use Rattle.model.specs.State.{base, empty}
+use Rattle.model.specs.Shape.{low}
+use Rattle.model.specs.State.{base, lowKind, empty}
 use Rattle.model.specs.Bytes.{rankAt, write}
 use Rattle.model.specs.Change.{Change, Answer}
 use Rattle.model.specs.Calls.{ChangedBytes, changeBytes}
@@ -28,36 +29,36 @@ answerBy l c d = record {
   number = ledgerNumber l c;
   draws = d .answer .draws;
   falls = d .answer .falls;
-  pairs = pairsOf (entered l c) (d .rack);
+  pairs = pairsOf low (entered l c) (d .rack);
 }
 
 -- "one line for each change", by the ledger l, from the rack bs on
 unfoldable pub changesBy : Ledger → List ℕ → List Change → List ℕ
 changesBy l bs [] = []
-changesBy l bs (c ∷ cs) = let d = changeBytes base bs c in answerLine (answerBy l c d) ++ changesBy (entered l c) (d .rack) cs
+changesBy l bs (c ∷ cs) = let d = changeBytes base low bs c in answerLine (answerBy l c d) ++ changesBy (entered l c) (d .rack) cs
 
 -- "then the pairs by rising lower board": a line for each link of the ledger whose ends name each other as mates, and no other line
 unfoldable pub pairsBy : Ledger → List ℕ → List ℕ
-pairsBy l bs = each (l .n) (λ v. each (l .n) (λ w. elim (isPair l bs v w) [ true ↦ pairText v w (rankAt bs v - 1) | false ↦ [] ]))
+pairsBy l bs = each (l .n) (λ v. each (l .n) (λ w. elim (isPair low l bs v w) [ true ↦ pairText v w (rankAt bs v - 1) | false ↦ [] ]))
 
 -- "then the pairs by rising lower board, then the end line", by the ledger and the last rack: the mean is that of the ledger's links
 unfoldable pub endingBy : Ledger → List ℕ → List ℕ
-endingBy l bs = pairsBy l bs ++ endText (pairsOf l bs) (mean (links l) (l .n))
+endingBy l bs = pairsBy l bs ++ endText (pairsOf low l bs) (mean (links l) (l .n))
 
 -- A run of the trace t that left the rack `last` and the record `text`: from a fresh rack, with a ledger that starts with no link and sees
 -- the changes alone.
 pub record RunDemand (t : Trace) (last text : List ℕ) : Type 0 where
   -- demand 3 of its changes, each of them and the last rack
-  pub demand : Demand (freshLedger (t .n)) (write (empty (t .n))) (t .changes)
+  pub demand : Demand low (freshLedger (t .n)) (write (empty lowKind (t .n))) (t .changes)
   -- the rack left is the last one of that list, so the facts are of its bytes, with the ledger's links
-  pub left : last ≡ lastRack (write (empty (t .n))) (t .changes)
-  pub facts : Facts (enteredAll (freshLedger (t .n)) (t .changes)) last
+  pub left : last ≡ lastRack low (write (empty lowKind (t .n))) (t .changes)
+  pub facts : Facts low (enteredAll (freshLedger (t .n)) (t .changes)) last
   -- and what the figures of the mean say of these links
   pub crowded : Crowding (enteredAll (freshLedger (t .n)) (t .changes))
   -- the record is the one that the ledger asks for, to the byte
   pub says : text
       ≡ rackLine (t .n)
-      ++ (changesBy (freshLedger (t .n)) (write (empty (t .n))) (t .changes) ++ endingBy (enteredAll (freshLedger (t .n)) (t .changes)) last)
+      ++ (changesBy (freshLedger (t .n)) (write (empty lowKind (t .n))) (t .changes) ++ endingBy (enteredAll (freshLedger (t .n)) (t .changes)) last)
 
 -- What is so of every run that answers 0, lent the rack `rack`: of a blank paper, that "no rack was set", no change made and no pair held, and
 -- "the rack buffer keeps its bytes"; of any other text, what demand 3 says of the trace that it holds.

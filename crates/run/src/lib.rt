@@ -5,7 +5,8 @@ ghost use mathlib.Core.Path.{_≡_};
 ghost use mathlib.Core.Bool.{true};
 ghost use Prim.Native.Nat.{_≤_, _<_};
 ghost use lib.ListN.{length};
-ghost use Rattle.model.specs.State.{base, empty};
+ghost use Rattle.model.specs.Shape.{low};
+ghost use Rattle.model.specs.State.{base, lowKind, empty};
 ghost use Rattle.model.specs.Bytes.{read, write};
 ghost use Rattle.model.specs.Sound.{sizeGood};
 ghost use Rattle.model.specs.Change.{change as changeOf};
@@ -32,9 +33,9 @@ pub struct RunAnswer {
 
 // The pair's line of v, if v is the lower vertex of a pair.
 fn put_lower(rack: &[u8], v: usize, out: &mut [u8]) -> usize
-    requires { ⌜ Sounded (now rack) ⌝ }
-    requires { ⌜ (v < read (now rack) .n) × (pairRoom ≤ length (now out)) ⌝ }
-    ensures { λ r. ⌜ Put (pairPart (read (now (rack .entry))) v) (now (out .entry)) (now (out .exit)) r ⌝ }
+    requires { ⌜ Sounded low (now rack) ⌝ }
+    requires { ⌜ (v < read low (now rack) .n) × (pairRoom ≤ length (now out)) ⌝ }
+    ensures { λ r. ⌜ Put (pairPart (read low (now (rack .entry))) v) (now (out .entry)) (now (out .exit)) r ⌝ }
 {
     let m = layout::mate(rack, v);
     if m == layout::NO_MATE {
@@ -49,9 +50,9 @@ fn put_lower(rack: &[u8], v: usize, out: &mut [u8]) -> usize
 
 // "then the pairs by rising lower board"
 fn put_pairs(rack: &[u8], out: &mut [u8]) -> usize
-    requires { ⌜ Sounded (now rack) ⌝ }
+    requires { ⌜ Sounded low (now rack) ⌝ }
     requires { ⌜ endingRoom ≤ length (now out) ⌝ }
-    ensures { λ r. ⌜ Put (pairLines (read (now (rack .entry)))) (now (out .entry)) (now (out .exit)) r ⌝ }
+    ensures { λ r. ⌜ Put (pairLines (read low (now (rack .entry)))) (now (out .entry)) (now (out .exit)) r ⌝ }
 {
     let n = layout::size(rack);
     let mut at = 0;
@@ -66,9 +67,9 @@ fn put_pairs(rack: &[u8], out: &mut [u8]) -> usize
 
 // "The end line becomes `(end (pairs P) (mean Q R))`, where twice the links equals Q times n plus R and R is below n."
 fn put_last(rack: &[u8], out: &mut [u8]) -> usize
-    requires { ⌜ Sounded (now rack) ⌝ }
+    requires { ⌜ Sounded low (now rack) ⌝ }
     requires { ⌜ endRoom ≤ length (now out) ⌝ }
-    ensures { λ r. ⌜ Put (endLine (read (now (rack .entry)))) (now (out .entry)) (now (out .exit)) r ⌝ }
+    ensures { λ r. ⌜ Put (endLine (read low (now (rack .entry)))) (now (out .entry)) (now (out .exit)) r ⌝ }
 {
     let pairs = changes::pairs(rack);
     let n = layout::size(rack) as u32;
@@ -78,9 +79,9 @@ fn put_last(rack: &[u8], out: &mut [u8]) -> usize
 
 // "then the pairs by rising lower board, then the end line"
 fn put_ending(rack: &[u8], out: &mut [u8]) -> usize
-    requires { ⌜ Sounded (now rack) ⌝ }
+    requires { ⌜ Sounded low (now rack) ⌝ }
     requires { ⌜ endingRoom ≤ length (now out) ⌝ }
-    ensures { λ r. ⌜ Put (endingText (read (now (rack .entry)))) (now (out .entry)) (now (out .exit)) r ⌝ }
+    ensures { λ r. ⌜ Put (endingText (read low (now (rack .entry)))) (now (out .entry)) (now (out .exit)) r ⌝ }
 {
     let at = put_pairs(rack, out);
     let k = put_last(rack, &mut out[at..]);
@@ -89,10 +90,10 @@ fn put_ending(rack: &[u8], out: &mut [u8]) -> usize
 
 // One change, and the line that answers it.
 fn put_change(rack: &mut [u8], code: u32, a: u32, b: u32, words: &[u32], out: &mut [u8]) -> usize
-    requires { ⌜ Sounded (now rack) ⌝ }
+    requires { ⌜ Sounded low (now rack) ⌝ }
     requires { ⌜ answerRoom ≤ length (now out) ⌝ }
-    ensures leaves { λ _. ⌜ now (rack .exit) ≡ write (changeOf base (read (now (rack .entry))) (brought code a b (now (words .entry))) .state) ⌝ }
-    ensures prints { λ r. ⌜ Put (answerLine (changeOf base (read (now (rack .entry))) (brought code a b (now (words .entry))) .answer)) (now (out .entry)) (now (out .exit)) r ⌝ }
+    ensures leaves { λ _. ⌜ now (rack .exit) ≡ write (changeOf base (read low (now (rack .entry))) (brought code a b (now (words .entry))) .state) ⌝ }
+    ensures prints { λ r. ⌜ Put (answerLine (changeOf base (read low (now (rack .entry))) (brought code a b (now (words .entry))) .answer)) (now (out .entry)) (now (out .exit)) r ⌝ }
 {
     let x = changes::change(rack, code, a, b, words);
     record::put_answer(out, x.number, x.draws, x.falls, x.pairs)
@@ -107,7 +108,7 @@ fn put_changes(
     changes: usize,
     out: &mut [u8],
 ) -> usize
-    requires { ⌜ Sounded (now rack) ⌝ }
+    requires { ⌜ Sounded low (now rack) ⌝ }
     requires { ⌜ Ready (now heads) (now words) changes (length (now out)) ⌝ }
     ensures { λ r. ⌜ Played (now (heads .entry)) (now (words .entry)) changes (now (rack .entry)) (now (rack .exit)) (now (out .entry)) (now (out .exit)) r ⌝ }
 {
@@ -143,7 +144,7 @@ fn put_record(
     changes: usize,
     space: &mut [u8],
 ) -> usize
-    requires { ⌜ (sizeGood n ≡ true) × (now rack ≡ write (empty n)) ⌝ }
+    requires { ⌜ (sizeGood low n ≡ true) × (now rack ≡ write (empty lowKind n)) ⌝ }
     requires { ⌜ Recordable (now heads) (now words) changes n (length (now space)) ⌝ }
     ensures { λ r. ⌜ Written (now (heads .entry)) (now (words .entry)) changes n (now (rack .exit)) (now (space .entry)) (now (space .exit)) r ⌝ }
 {
@@ -205,9 +206,9 @@ fn taken(
     changes: usize,
     space: &mut [u8],
 ) -> RunAnswer
-    requires { ⌜ sizedOf (now rack) ≡ true ⌝ }
+    requires { ⌜ sizedOf low (now rack) ≡ true ⌝ }
     requires { ⌜ Recordable (now heads) (now words) changes n (length (now space)) ⌝ }
-    ensures { λ r. ⌜ Took (sizeGood n) (now (heads .entry)) (now (words .entry)) changes n (now (rack .entry)) (now (space .entry)) (told r) (now (rack .exit)) (now (space .exit)) ⌝ }
+    ensures { λ r. ⌜ Took (sizeGood low n) (now (heads .entry)) (now (words .entry)) changes n (now (rack .entry)) (now (space .entry)) (told r) (now (rack .exit)) (now (space .exit)) ⌝ }
 {
     if engine::make(rack, n) != 0 {
         return turned_back(5, 0);

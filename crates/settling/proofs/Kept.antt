@@ -6,6 +6,7 @@ use mathlib.Core.List.{List}
 use Prim.Native.Nat.{ℕ, zero, suc, _+_, _≤_, _<_}
 use native.Mathlib.Omega.{arith}
 use lib.Dec.{T}
+use Rattle.model.specs.Shape.{Shape}
 use Rattle.model.specs.State.{base, State, below}
 use Rattle.model.specs.Moves.{Run, handed, drawn, draw, handOver, fall, scanFrom, take}
 use Rattle.model.proofs.Tests.{le?, holds?, leb-yes, leb-no}
@@ -13,25 +14,26 @@ use Rattle.theory.proofs.Matching.{base-pos}
 use Rattle.theory.proofs.Loops.{scanUpto, scanFrom-loop}
 use Rattle.moves.specs.Proper.{Proper, Ordered, ranked}
 use Rattle.moves.proofs.Keeps.{hand-row}
+use Rattle.moves.proofs.Held.{proper-few}
 use Rattle.settling.proofs.Steps.{kept-then, kept-none, hand-kept, fall-kept, draw-kept, visited-kept}
 use Rattle.settling.proofs.News.{same-of, same-then, handed-same, fall-same, draw-same, upto-none, upto-yes, upto-no, upto-room, scanFrom-same}
 pub use Rattle.settling.proofs.Steps.{SameEdges}
 pub use Rattle.settling.proofs.News.{SameRun}
 
 -- the scan: the vertices below m that pass p, which are vertices of the state
-pub upto-kept : (words : List ℕ) (i : ℕ) (p : ℕ → Bool) (r : Run) → Proper (r .state) → Ordered (r .state) → i ≤ base .top
-    → ((w : ℕ) → T (p w) → w < r .state .n) → (m : ℕ) → SameEdges (r .state) (scanUpto base words i p m r .state)
+pub upto-kept : {S : Shape} (words : List ℕ) (i : ℕ) (p : ℕ → Bool) (r : Run) → Proper S (r .state) → Ordered (r .state) → i ≤ base .top
+    → ((w : ℕ) → T (p w) → w < r .state .n) → (m : ℕ) → SameEdges S (r .state) (scanUpto base words i p m r .state)
 upto-kept words i p r q o k h zero = rw (upto-none base words i p r) (kept-none (r .state) q o)
-upto-kept words i p r q o k h (suc m) =
-    let a : SameEdges (r .state) (scanUpto base words i p m r .state) = upto-kept words i p r q o k h m in
+upto-kept {S} words i p r q o k h (suc m) =
+    let a : SameEdges S (r .state) (scanUpto base words i p m r .state) = upto-kept words i p r q o k h m in
     elim (holds? (p m)) [
       | inl t ↦ rw (upto-yes base words i p m r t)
           (kept-then a (visited-kept words i m (scanUpto base words i p m r) (a .proper) (a .ordered) (omega (arith, a .size, h m t)) k))
       | inr t ↦ rw (upto-no base words i p m r t) a
     ]
 
-pub scanFrom-kept : (words : List ℕ) (i v : ℕ) (r : Run) → Proper (r .state) → Ordered (r .state) → i ≤ base .top
-    → SameEdges (r .state) (scanFrom base words i v r .state)
+pub scanFrom-kept : {S : Shape} (words : List ℕ) (i v : ℕ) (r : Run) → Proper S (r .state) → Ordered (r .state) → i ≤ base .top
+    → SameEdges S (r .state) (scanFrom base words i v r .state)
 scanFrom-kept words i v r p o k =
     rw (scanFrom-loop base words i v r) (upto-kept words i (r .state .owns v) r p o k (λ w t. p .inside v w t .1) (r .state .n))
 
@@ -46,22 +48,22 @@ module _ (words : List ℕ) (i v : ℕ) (r : Run) where
   unfolding take
   take-falls h = rw (leb-no (base .thr i) (below (handOver i v (r .state)) v i) h, take) refl
 
-pub take-kept : (words : List ℕ) (i v : ℕ) (r : Run) → Proper (r .state) → Ordered (r .state) → v < r .state .n → r .state .rank v ≡ suc i
-    → i ≤ base .top → SameEdges (r .state) (take base words i v r .state)
+pub take-kept : {S : Shape} (words : List ℕ) (i v : ℕ) (r : Run) → Proper S (r .state) → Ordered (r .state) → v < r .state .n → r .state .rank v ≡ suc i
+    → i ≤ base .top → SameEdges S (r .state) (take base words i v r .state)
 unfolding handOver fall ranked
-take-kept words i v r p o l e k =
+take-kept {S} words i v r p o l e k =
     let s : State = handOver i v (r .state) in
-    let a : SameEdges (r .state) s = hand-kept (r .state) p o i v l e in
+    let a : SameEdges S (r .state) s = hand-kept (r .state) p o i v l e in
     elim (le? (base .thr i) (below s v i)) [
       | inl h ↦ rw (take-draws words i v r h)
           (kept-then a (draw-kept words i v (handed i v r) (a .proper) (a .ordered) l k (omega (arith, base-pos i))))
       | inr h ↦
-          let b : SameEdges s (ranked v i s) = fall-kept s (a .proper) (a .ordered) i v l e (hand-row (r .state) p i v o e) in
+          let b : SameEdges S s (ranked v i s) = fall-kept s (a .proper) (a .ordered) i v l e (hand-row (r .state) p i v o e) in
           rw (take-falls words i v r h) (kept-then (kept-then a b) (scanFrom-kept words i v (fall i v (handed i v r)) (b .proper) (b .ordered) k))
     ]
 
-pub take-room : (words : List ℕ) (i v : ℕ) (r : Run) → Proper (r .state) → Ordered (r .state) → v < r .state .n → r .state .rank v ≡ suc i
-    → i ≤ base .top → (take base words i v r .draws ≤ r .draws + 257) × (take base words i v r .falls ≤ suc (r .falls))
+pub take-room : {S : Shape} (words : List ℕ) (i v : ℕ) (r : Run) → Proper S (r .state) → Ordered (r .state) → v < r .state .n → r .state .rank v ≡ suc i
+    → i ≤ base .top → (take base words i v r .draws ≤ r .draws + suc (S .most)) × (take base words i v r .falls ≤ suc (r .falls))
 unfolding draw drawn fall handOver
 take-room words i v r p o l e k =
     let s : State = handOver i v (r .state) in
@@ -70,7 +72,7 @@ take-room words i v r p o l e k =
       | inr h ↦
           let q : Run = fall i v (handed i v r) in
           let m = upto-room words i base (q .state .owns v) (q .state .n) q in
-          rw (take-falls words i v r h, scanFrom-loop base words i v q) (omega (arith, m .0, p .few), omega (arith, m .1))
+          rw (take-falls words i v r h, scanFrom-loop base words i v q) (omega (arith, m .0, proper-few p), omega (arith, m .1))
     ]
 
 pub take-same : (words : List ℕ) (i v : ℕ) (r q : Run) → SameRun r q → SameRun (take base words i v r) (take base words i v q)

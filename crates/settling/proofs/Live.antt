@@ -7,6 +7,7 @@ use mathlib.Core.List.{List}
 use Prim.Native.Nat.{ℕ, zero, suc, _≤_, _<_}
 use native.Mathlib.Omega.{arith}
 use lib.Dec.{T}
+use Rattle.model.specs.Shape.{Shape}
 use Rattle.model.specs.State.{base, State, edge, near, below}
 use Rattle.model.specs.Moves.{Run, lifted, part, rise, marry, chosen, drawn, draw, promote, due}
 use Rattle.model.proofs.Tests.{eq?, holds?, true-T}
@@ -35,7 +36,7 @@ module _ (i v : ℕ) (p : ℕ → Bool) where
   live-marry x y t h = record { near = h .near; from = h .from }
 
   -- a vertex that rises is no longer near; v itself takes only edges to vertices that were in its row
-  live-rise : (x : ℕ) (t : State) → Proper t → Ordered t → Live i v p t → Live i v p (rise i x t)
+  live-rise : {S : Shape} (x : ℕ) (t : State) → Proper S t → Ordered t → Live i v p t → Live i v p (rise i x t)
   unfolding rise
   live-rise x t q o h = record {
     near = λ y b.
@@ -55,10 +56,10 @@ module _ (i v : ℕ) (p : ℕ → Bool) where
     ];
   }
 
-  live-lift : (x : ℕ) (t : State) → Proper t → Ordered t → x < t .n → Live i v p t → Live i v p (rise i x (part x t))
-  live-lift x t q o l h = let a : SameEdges t (part x t) = part-kept t q o x l in live-rise x (part x t) (a .proper) (a .ordered) (live-part x t h)
+  live-lift : {S : Shape} (x : ℕ) (t : State) → Proper S t → Ordered t → x < t .n → Live i v p t → Live i v p (rise i x (part x t))
+  live-lift {S} x t q o l h = let a : SameEdges S t (part x t) = part-kept t q o x l in live-rise x (part x t) (a .proper) (a .ordered) (live-part x t h)
 
-  live-draw : (words : List ℕ) (u : ℕ) (r : Run) → Proper (r .state) → Ordered (r .state) → 1 ≤ below (r .state) u i → Live i v p (r .state)
+  live-draw : {S : Shape} (words : List ℕ) (u : ℕ) (r : Run) → Proper S (r .state) → Ordered (r .state) → 1 ≤ below (r .state) u i → Live i v p (r .state)
       → Live i v p (draw words i u r .state)
   unfolding draw drawn
   live-draw words u r q o b h =
@@ -66,15 +67,15 @@ module _ (i v : ℕ) (p : ℕ → Bool) where
       live-marry u y (rise i y (part y (r .state)))
       (live-lift y (r .state) q o (near-inside (r .state) q u i y (chosen-near words i u r b)) h)
 
-  live-promote : (words : List ℕ) (u : ℕ) (r : Run) → Proper (r .state) → Ordered (r .state) → u < r .state .n → i ≤ base .top
+  live-promote : {S : Shape} (words : List ℕ) (u : ℕ) (r : Run) → Proper S (r .state) → Ordered (r .state) → u < r .state .n → i ≤ base .top
       → r .state .rank u ≤ i → 1 ≤ below (r .state) u i → Live i v p (r .state) → Live i v p (promote words i u r .state)
   unfolding promote
-  live-promote words u r q o l k m b h =
+  live-promote {S} words u r q o l k m b h =
       let s : State = r .state in
-      let a : SameEdges s (rise i u (part u s)) = lift-kept s q o i u l m k in
+      let a : SameEdges S s (rise i u (part u s)) = lift-kept s q o i u l m k in
       live-draw words u (lifted i u r) (a .proper) (a .ordered) (omega (arith, lift-below s q o i u l)) (live-lift u s q o l h)
 
-  live-visited : (words : List ℕ) (w : ℕ) (r : Run) → Proper (r .state) → Ordered (r .state) → w < r .state .n → i ≤ base .top
+  live-visited : {S : Shape} (words : List ℕ) (w : ℕ) (r : Run) → Proper S (r .state) → Ordered (r .state) → w < r .state .n → i ≤ base .top
       → Live i v p (r .state) → Live i v p (visited base words i w r .state)
   live-visited words w r q o l k h = elim (holds? (due base i w (r .state))) [
     | inl t ↦ rw (visited-yes base words i w r t)
@@ -83,8 +84,8 @@ module _ (i v : ℕ) (p : ℕ → Bool) where
   ]
 
 -- The scan from a run whose row of v holds exactly v's neighbours below level i.
-module _ (words : List ℕ) (i v : ℕ) (r : Run) (q : Proper (r .state)) (o : Ordered (r .state)) (k : i ≤ base .top) (f : RowBelow i v (r .state)) where
-  pub scanned-kept : (m : ℕ) → SameEdges (r .state) (scanUpto base words i (r .state .owns v) m r .state)
+module _ {S : Shape} (words : List ℕ) (i v : ℕ) (r : Run) (q : Proper S (r .state)) (o : Ordered (r .state)) (k : i ≤ base .top) (f : RowBelow i v (r .state)) where
+  pub scanned-kept : (m : ℕ) → SameEdges S (r .state) (scanUpto base words i (r .state .owns v) m r .state)
   scanned-kept m = upto-kept words i (r .state .owns v) r q o k (λ w t. q .inside v w t .1) m
 
   pub scanned-live : (m : ℕ) → Live i v (r .state .owns v) (scanUpto base words i (r .state .owns v) m r .state)
@@ -92,7 +93,7 @@ module _ (words : List ℕ) (i v : ℕ) (r : Run) (q : Proper (r .state)) (o : O
       rw (upto-none base words i (r .state .owns v) r) (record { near = λ x t. subst T (sym (f x)) t; from = λ x t. t })
   scanned-live (suc m) =
       let p : ℕ → Bool = r .state .owns v in
-      let a : SameEdges (r .state) (scanUpto base words i p m r .state) = scanned-kept m in
+      let a : SameEdges S (r .state) (scanUpto base words i p m r .state) = scanned-kept m in
       elim (holds? (p m)) [
         | inl t ↦ rw (upto-yes base words i p m r t)
             (live-visited i v p words m (scanUpto base words i p m r) (a .proper) (a .ordered) (omega (arith, a .size, q .inside v m t .1)) k (scanned-live m))
@@ -105,7 +106,7 @@ module _ (words : List ℕ) (i v : ℕ) (r : Run) (q : Proper (r .state)) (o : O
   scanned-less m x t =
       let p : ℕ → Bool = r .state .owns v in
       let u : Run = scanUpto base words i p m r in
-      let a : SameEdges (r .state) (u .state) = scanned-kept m in
+      let a : SameEdges S (r .state) (u .state) = scanned-kept m in
       elim (holds? (p m)) [
         | inl h ↦ live-visited i v (u .state .owns v) words m u (a .proper) (a .ordered) (omega (arith, a .size, q .inside v m h .1)) k
             (record { near = scanned-live m .near; from = λ y b. b }) .from x

@@ -4,8 +4,10 @@ use mathlib.Core.Path.{_≡_, refl, sym, ap, _∙_, subst}
 use mathlib.Core.List.{List}
 use Prim.Native.Nat.{ℕ, zero, suc, _+_, _*_, _≤_, _<_}
 use native.Mathlib.Numerals.{add-one}
+use native.Mathlib.Nat.{mul-suc, mul-le-mul, mul-le-mul-left}
 use native.Mathlib.Omega.{arith}
 use lib.ListN.{length}
+use Rattle.model.specs.Shape.{Shape}
 use Rattle.model.specs.State.{base, State}
 use Rattle.model.specs.Bytes.{sizeAt, read, write}
 use Rattle.model.specs.Moves.{Run, Found, none, found, take, pick, settleIn, settle}
@@ -14,9 +16,9 @@ use Rattle.theory.proofs.Queues.{Queued}
 use Rattle.theory.proofs.Takings.{Highest, pick-highest}
 use Rattle.theory.proofs.Settling.{settle-step, settle-rest}
 use Rattle.moves.specs.Proper.{Proper, Ordered, Held}
-use Rattle.moves.proofs.Held.{held-of, held-size}
+use Rattle.moves.proofs.Held.{held-of, held-good, held-room, held-few, held-size}
 use Rattle.settling.specs.declared.tally.Tally.{Tally}
-use Rattle.settling.specs.Settling.{queueIn, running, HoldsWaiting, Room, Left, takeLimit}
+use Rattle.settling.specs.Settling.{queueIn, running, HoldsWaiting, Room, Left, largestFigure, takeLimit}
 use Rattle.settling.proofs.News.{same-then}
 use Rattle.settling.proofs.Written.{levels-as, left-run}
 use Rattle.settling.proofs.Kept.{SameEdges, SameRun, take-kept, take-room, take-same}
@@ -42,54 +44,73 @@ pub record Takable (s : State) (i v : ℕ) : Type 0 where
   pub rank : s .rank v ≡ suc i
   pub level : i ≤ base .top
 
-pub taking-of : (s : State) (places : List ℕ) (t : Tally) (i v : ℕ) → Proper s → HoldsWaiting places t s
+pub taking-of : {S : Shape} (s : State) (places : List ℕ) (t : Tally) (i v : ℕ) → Proper S s → HoldsWaiting places t s
     → pick (suc (base .top)) (queuesIn (s .rank) (queueIn places t)) ≡ found i v → Takable s i v
 taking-of s places t i v p w e =
     let q : Queued (s .n) (marks s) (queuesIn (s .rank) (queueIn places t)) = record { all = queueIn places t; lists = w .lists; queues = refl } in
     let h : Highest s (suc (base .top)) (found i v) = subst (Highest s (suc (base .top))) e (pick-highest s _ q (suc (base .top))) in
     record { inside = h .0; free = h .1 .0; rank = h .1 .1 .0; level = omega (arith, p .ranks v, h .1 .1 .0) }
 
+-- a figure x has room for `left` more takings, each of which adds at most one for each vertex and one more
+abbrev pub RoomFor : Shape → ℕ → ℕ → Type 0
+RoomFor S left x = x + suc (S .most) * left ≤ largestFigure
+
+-- so for one, if one is left, and after it for the others
+room-one : (S : Shape) (left x : ℕ) → RoomFor S left x → 1 ≤ left → x ≤ takeLimit S
+room-one S left x h some = omega (arith, mul-le-mul-left (suc (S .most)) some)
+
+room-others : (S : Shape) (left k x y : ℕ) → RoomFor S left x → left ≡ suc k → y ≤ x + suc (S .most) → RoomFor S k y
+room-others S left k x y h n l = omega (arith, mul-suc (suc (S .most)) k, ap (λ (z : ℕ). suc (S .most) * z) n)
+
 -- Before each taking: `left` more takings from the bytes and the tally on lead to where the settling of r leads, and the tally has room
 -- for them.
-pub record TakingsLeft (words : List ℕ) (r : Run) (width : ℕ) (bs places : List ℕ) (left : ℕ) (t : Tally) : Type 0 where
-  pub held : Held bs
-  pub ordered : Ordered (read bs)
-  pub holds : HoldsWaiting places t (read bs)
+pub record TakingsLeft (S : Shape) (words : List ℕ) (r : Run) (width : ℕ) (bs places : List ℕ) (left : ℕ) (t : Tally) : Type 0 where
+  pub held : Held S bs
+  pub ordered : Ordered (read S bs)
+  pub holds : HoldsWaiting places t (read S bs)
   pub long : length places ≡ width
-  pub ahead : SameRun (settleIn base words left (running bs places t)) (settle base words r)
-  pub draws : t .draws + 257 * left ≤ 300000
-  pub falls : t .falls + left ≤ 300000
+  pub ahead : SameRun (settleIn base words left (running S bs places t)) (settle base words r)
+  pub draws : RoomFor S left (t .draws)
+  pub falls : RoomFor S left (t .falls)
+
+-- a settling's takings are at most as many as there are places for counts
+most-takings : {S : Shape} {bs : List ℕ} → Held S bs → read S bs .n * suc (base .top) ≤ S .most * S .levels
+most-takings h = mul-le-mul (held-few h) (held-room h)
 
 -- the takings that the code allows, as the settling counts them
-module _ {bs : List ℕ} (h : Held bs) (n top : ℕ) (e : n ≡ sizeAt bs) (f : top ≡ base .top) where
-  pub takings : n * (top + 1) ≡ read bs .n * suc (base .top)
+module _ {S : Shape} {bs : List ℕ} (h : Held S bs) (n top : ℕ) (e : n ≡ sizeAt bs) (f : top ≡ base .top) where
+  pub takings : n * (top + 1) ≡ read S bs .n * suc (base .top)
   takings = rw (e, f, held-size h, add-one) refl
 
-  pub takings-few : n * (top + 1) ≤ 1024
-  unfolding base
-  takings-few = rw takings (omega (arith, h .proper .few))
+  pub takings-few : n * (top + 1) ≤ S .most * S .levels
+  takings-few = rw takings (most-takings h)
 
-pub going-start : (words bs places : List ℕ) (left : ℕ) (t : Tally) → Held bs → Ordered (read bs) → HoldsWaiting places t (read bs) → Room 1 0 t
-    → left ≡ read bs .n * suc (base .top) → TakingsLeft words (running bs places t) (length places) bs places left t
-unfolding settle base
+-- figures of four bytes have room for all of them
+room-all : {S : Shape} {bs : List ℕ} → Held S bs → (left x : ℕ) → left ≡ read S bs .n * suc (base .top) → x ≤ 1 → RoomFor S left x
+room-all {S} h left x e l =
+    let few : left ≤ S .most * S .levels = rw e (most-takings h) in omega (arith, mul-le-mul-left (suc (S .most)) few, held-good h .figures)
+
+pub going-start : {S : Shape} (words bs places : List ℕ) (left : ℕ) (t : Tally) → Held S bs → Ordered (read S bs) → HoldsWaiting places t (read S bs) → Room 1 0 t
+    → left ≡ read S bs .n * suc (base .top) → TakingsLeft S words (running S bs places t) (length places) bs places left t
+unfolding settle
 going-start words bs places left t h o w m e = record {
   held = h;
   ordered = o;
   holds = w;
   long = refl;
   ahead = rw e (record { state = refl; queues = refl; draws = refl; falls = refl });
-  draws = omega (arith, m .draws, h .proper .few);
-  falls = omega (arith, m .falls, h .proper .few);
+  draws = room-all h left (t .draws) e (m .draws);
+  falls = room-all h left (t .falls) e (omega (arith, m .falls));
 }
 
-module _ {words : List ℕ} {r : Run} {width : ℕ} {bs places : List ℕ} {left : ℕ} {t : Tally} (g : TakingsLeft words r width bs places left t) where
-  pub going-room : Room takeLimit takeLimit t
-  going-room = record { draws = omega (arith, g .draws); falls = omega (arith, g .falls) }
+module _ {S : Shape} {words : List ℕ} {r : Run} {width : ℕ} {bs places : List ℕ} {left : ℕ} {t : Tally} (g : TakingsLeft S words r width bs places left t) where
+  pub going-room : 1 ≤ left → Room (takeLimit S) (takeLimit S) t
+  going-room some = record { draws = room-one S left (t .draws) (g .draws) some; falls = room-one S left (t .falls) (g .falls) some }
 
   -- where no taking follows, the settling is done
-  going-left : settleIn base words left (running bs places t) ≡ running bs places t → Left (settle base words r) bs places t
+  going-left : settleIn base words left (running S bs places t) ≡ running S bs places t → Left (settle base words r) bs places t
   going-left e =
-      let s : SameRun (running bs places t) (settle base words r) = rw e at (g .ahead) in
+      let s : SameRun (running S bs places t) (settle base words r) = rw e at (g .ahead) in
       record {
         rack = g .held .written ∙ ap write (s .state);
         queues = levels-as places t (sym (s .state)) ∙ s .queues;
@@ -98,30 +119,30 @@ module _ {words : List ℕ} {r : Run} {width : ℕ} {bs places : List ℕ} {left
         holds = subst (HoldsWaiting places t) (s .state) (g .holds);
       }
 
-  pub going-rest : pick (suc (base .top)) (queuesIn (read bs .rank) (queueIn places t)) ≡ none → Left (settle base words r) bs places t
-  going-rest e = going-left (settle-rest base words left (running bs places t) e)
+  pub going-rest : pick (suc (base .top)) (queuesIn (read S bs .rank) (queueIn places t)) ≡ none → Left (settle base words r) bs places t
+  going-rest e = going-left (settle-rest base words left (running S bs places t) e)
 
   pub going-used : left ≡ 0 → Left (settle base words r) bs places t
   unfolding settleIn
   going-used e = going-left (rw e refl)
 
   -- a taking
-  pub going-on : {i v : ℕ} {bs₁ places₁ : List ℕ} {t₁ : Tally} → pick (suc (base .top)) (queuesIn (read bs .rank) (queueIn places t)) ≡ found i v → (k : ℕ) → left ≡ suc k
-      → Left (take base words i v (running bs places t)) bs₁ places₁ t₁ → length places₁ ≡ length places → TakingsLeft words r width bs₁ places₁ k t₁
+  pub going-on : {i v : ℕ} {bs₁ places₁ : List ℕ} {t₁ : Tally} → pick (suc (base .top)) (queuesIn (read S bs .rank) (queueIn places t)) ≡ found i v → (k : ℕ) → left ≡ suc k
+      → Left (take base words i v (running S bs places t)) bs₁ places₁ t₁ → length places₁ ≡ length places → TakingsLeft S words r width bs₁ places₁ k t₁
   going-on {i} {v} {bs₁} {places₁} {t₁} e k n l same-long =
-      let q : Run = take base words i v (running bs places t) in
-      let p : Proper (read bs) = g .held .proper in
-      let a : Takable (read bs) i v = taking-of (read bs) places t i v p (g .holds) e in
-      let h : SameEdges (read bs) (q .state) = take-kept words i v (running bs places t) p (g .ordered) (a .inside) (a .rank) (a .level) in
-      let m : (q .draws ≤ t .draws + 257) × (q .falls ≤ suc (t .falls)) =
-      take-room words i v (running bs places t) p (g .ordered) (a .inside) (a .rank) (a .level) in
-      let s : SameRun (running bs₁ places₁ t₁) q = left-run l (h .proper) in
+      let q : Run = take base words i v (running S bs places t) in
+      let p : Proper S (read S bs) = g .held .proper in
+      let a : Takable (read S bs) i v = taking-of (read S bs) places t i v p (g .holds) e in
+      let h : SameEdges S (read S bs) (q .state) = take-kept words i v (running S bs places t) p (g .ordered) (a .inside) (a .rank) (a .level) in
+      let m : (q .draws ≤ t .draws + suc (S .most)) × (q .falls ≤ suc (t .falls)) =
+      take-room words i v (running S bs places t) p (g .ordered) (a .inside) (a .rank) (a .level) in
+      let s : SameRun (running S bs₁ places₁ t₁) q = left-run l (h .proper) in
       record {
         held = held-of bs₁ (q .state) (l .rack) (h .proper);
         ordered = subst Ordered (sym (s .state)) (h .ordered);
         holds = subst (HoldsWaiting places₁ t₁) (sym (s .state)) (l .holds);
         long = same-long ∙ g .long;
-        ahead = same-then (settle-same words k (running bs₁ places₁ t₁) q s) (rw (n, settle-step base words k i v (running bs places t) e) at (g .ahead));
-        draws = omega (arith, l .draws, m .0, g .draws);
-        falls = omega (arith, l .falls, m .1, g .falls);
+        ahead = same-then (settle-same words k (running S bs₁ places₁ t₁) q s) (rw (n, settle-step base words k i v (running S bs places t) e) at (g .ahead));
+        draws = room-others S left k (t .draws) (t₁ .draws) (g .draws) n (omega (arith, l .draws, m .0));
+        falls = room-others S left k (t .falls) (t₁ .falls) (g .falls) n (omega (arith, l .falls, m .1));
       }

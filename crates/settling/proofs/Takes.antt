@@ -8,6 +8,7 @@ use Prim.Native.Nat.{ℕ, zero, suc, _≤_, _<_}
 use native.Mathlib.Omega.{arith}
 use lib.Dec.{T}
 use lib.ListN.{length, take as first}
+use Rattle.model.specs.Shape.{Shape}
 use Rattle.model.specs.State.{base, State, below, phi}
 use Rattle.model.specs.Bytes.{read, write}
 use Rattle.model.specs.Moves.{Run, join, without, handed, handOver, fall, draw, due, scanFrom, take}
@@ -28,43 +29,43 @@ use Rattle.settling.proofs.Written.{Draws, draws-of, levels-as, left-sa
 
 -- v, waiting at level i, has left the queue and handed its edges of that level on, and k vertices are below: bs, places and t before, b,
 -- places′ and t′ after
-pub record Handed (bs places : List ℕ) (t : Tally) (i v k : ℕ) (b places′ : List ℕ) (t′ : Tally) : Type 0 where
-  pub held : Held bs
-  pub ordered : Ordered (read bs)
-  pub inside : v < read bs .n
-  pub free : read bs .mate v ≡ v
-  pub rank : read bs .rank v ≡ suc i
+pub record Handed (S : Shape) (bs places : List ℕ) (t : Tally) (i v k : ℕ) (b places′ : List ℕ) (t′ : Tally) : Type 0 where
+  pub held : Held S bs
+  pub ordered : Ordered (read S bs)
+  pub inside : v < read S bs .n
+  pub free : read S bs .mate v ≡ v
+  pub rank : read S bs .rank v ≡ suc i
   pub level : i ≤ base .top
-  pub holds : HoldsWaiting places t (read bs)
+  pub holds : HoldsWaiting places t (read S bs)
   pub left : Requeued (without v (queueIn places t)) t places′ t′
   pub long : length places′ ≡ length places
-  pub bytes : b ≡ write (handOver i v (read bs))
-  pub size : k ≡ below (handOver i v (read bs)) v i
+  pub bytes : b ≡ write (handOver i v (read S bs))
+  pub size : k ≡ below (handOver i v (read S bs)) v i
 
-module _ {bs places : List ℕ} {t : Tally} {i v k : ℕ} {b places′ : List ℕ} {t′ : Tally} (a : Handed bs places t i v k b places′ t′) where
-  handed-kept : SameEdges (read bs) (handOver i v (read bs))
-  handed-kept = hand-kept (read bs) (a .held .proper) (a .ordered) i v (a .inside) (a .rank)
+module _ {S : Shape} {bs places : List ℕ} {t : Tally} {i v k : ℕ} {b places′ : List ℕ} {t′ : Tally} (a : Handed S bs places t i v k b places′ t′) where
+  handed-kept : SameEdges S (read S bs) (handOver i v (read S bs))
+  handed-kept = hand-kept (read S bs) (a .held .proper) (a .ordered) i v (a .inside) (a .rank)
 
-  handed-read : read b ≡ handOver i v (read bs)
-  handed-read = reads-as b (handOver i v (read bs)) (a .bytes) (handed-kept .proper)
+  handed-read : read S b ≡ handOver i v (read S bs)
+  handed-read = reads-as b (handOver i v (read S bs)) (a .bytes) (handed-kept .proper)
 
-  pub handed-held : Held b × Ordered (read b)
-  handed-held = (held-of b (handOver i v (read bs)) (a .bytes) (handed-kept .proper), subst Ordered (sym handed-read) (handed-kept .ordered))
+  pub handed-held : Held S b × Ordered (read S b)
+  handed-held = (held-of b (handOver i v (read S bs)) (a .bytes) (handed-kept .proper), subst Ordered (sym handed-read) (handed-kept .ordered))
 
-  handed-row : RowBelow i v (handOver i v (read bs))
-  handed-row = hand-row (read bs) (a .held .proper) i v (a .ordered) (a .rank)
+  handed-row : RowBelow i v (handOver i v (read S bs))
+  handed-row = hand-row (read S bs) (a .held .proper) i v (a .ordered) (a .rank)
 
   -- a hand-over changes no mate and no rank
-  handed-holds : HoldsWaitingBut v places′ t′ (handOver i v (read bs))
+  handed-holds : HoldsWaitingBut v places′ t′ (handOver i v (read S bs))
   unfolding handOver
   handed-holds =
-      let h : HoldsWaitingBut v places′ t′ (read bs) = left-holds (a .long) (a .holds) (a .left) in
+      let h : HoldsWaitingBut v places′ t′ (read S bs) = left-holds (a .long) (a .holds) (a .left) in
       record { room = h .room; within = h .within; lists = h .lists; paired = h .paired }
 
-  pub handed-waits : HoldsWaitingBut v places′ t′ (read b)
+  pub handed-waits : HoldsWaitingBut v places′ t′ (read S b)
   handed-waits = subst (HoldsWaitingBut v places′ t′) (sym handed-read) handed-holds
 
-  pub handed-falls : Falling b i v k
+  pub handed-falls : Falling S b i v k
   unfolding handOver
   handed-falls = record {
     inside = omega (arith, a .inside, ap (λ (s : State). s .n) handed-read);
@@ -75,10 +76,10 @@ module _ {bs places : List ℕ} {t : Tally} {i v k : ℕ} {b places′ : List �
     size = a .size ∙ ap (λ (s : State). below s v i) (sym handed-read);
   }
 
-  pub handed-draws : base .thr i ≤ k → t .draws ≤ drawLimit → Draws b i v k places′ t′ (read b)
+  pub handed-draws : base .thr i ≤ k → t .draws ≤ drawLimit → Draws S b i v k places′ t′ (read S b)
   unfolding handOver
   handed-draws n x =
-      draws-of (handOver i v (read bs)) (a .bytes) (handed-kept .proper) i v k t′ (
+      draws-of (handOver i v (read S bs)) (a .bytes) (handed-kept .proper) i v k t′ (
         (handed-held .0, handed-kept .ordered),
         (
           (a .inside, a .free, a .rank, a .level),
@@ -87,7 +88,7 @@ module _ {bs places : List ℕ} {t : Tally} {i v k : ℕ} {b places′ : List �
       )
 
   -- the run that goes on from there is the definition's
-  handed-run : SameRun (running b places′ t′) (handed i v (running bs places t))
+  handed-run : SameRun (running S b places′ t′) (handed i v (running S bs places t))
   unfolding handOver
   handed-run = record {
     state = handed-read;
@@ -97,25 +98,25 @@ module _ {bs places : List ℕ} {t : Tally} {i v k : ℕ} {b places′ : List �
   }
 
   pub taken-draws : (words : List ℕ) {places″ d : List ℕ} {r : Tally} → base .thr i ≤ k
-      → Left (draw words i v (running b places′ t′)) d places″ r → Left (take base words i v (running bs places t)) d places″ r
+      → Left (draw words i v (running S b places′ t′)) d places″ r → Left (take base words i v (running S bs places t)) d places″ r
   taken-draws words n c =
-      rw (take-draws words i v (running bs places t) (omega (arith, a .size))) (left-same (draw-same words i v handed-run) c)
+      rw (take-draws words i v (running S bs places t) (omega (arith, a .size))) (left-same (draw-same words i v handed-run) c)
 
   pub taken-falls : (words : List ℕ) {places″ d : List ℕ} {r : Tally} → k < base .thr i
-      → Left (scanFrom base words i v (fall i v (running b places′ t′))) d places″ r → Left (take base words i v (running bs places t)) d places″ r
+      → Left (scanFrom base words i v (fall i v (running S b places′ t′))) d places″ r → Left (take base words i v (running S bs places t)) d places″ r
   taken-falls words n c =
-      rw (take-falls words i v (running bs places t) (omega (arith, a .size)))
+      rw (take-falls words i v (running S bs places t) (omega (arith, a .size)))
       (left-same (scanFrom-same base words i v (fall-same i v handed-run)) c)
 
 -- v has fallen from level i and has joined the end of its new level: bs, places and t before, b, places′ and t′ after
-pub record Fallen (bs places : List ℕ) (t : Tally) (i v k : ℕ) (b places′ : List ℕ) (t′ : Tally) : Type 0 where
-  pub held : Held bs
-  pub ordered : Ordered (read bs)
-  pub falls : Falling bs i v k
-  pub holds : HoldsWaitingBut v places t (read bs)
+pub record Fallen (S : Shape) (bs places : List ℕ) (t : Tally) (i v k : ℕ) (b places′ : List ℕ) (t′ : Tally) : Type 0 where
+  pub held : Held S bs
+  pub ordered : Ordered (read S bs)
+  pub falls : Falling S bs i v k
+  pub holds : HoldsWaitingBut v places t (read S bs)
   pub joined : Requeued (joinQueue v i (queueIn places t)) t places′ t′
   pub long : length places′ ≡ length places
-  pub bytes : b ≡ write (ranked v i (read bs))
+  pub bytes : b ≡ write (ranked v i (read S bs))
 
 -- where nobody of the row is due, nothing happens in the scan
 upto-quiet : (words : List ℕ) (i : ℕ) (p : ℕ → Bool) (m : ℕ) (r : Run) → ((w : ℕ) → T (p w) → T (due base i w (r .state)) → ⊥)
@@ -129,25 +130,25 @@ upto-quiet words i p (suc m) r h =
     ]
 
 -- what the scan after a fall asks
-abbrev pub Scans : List ℕ → ℕ → ℕ → List ℕ → Tally → State → Type 0
-Scans b i v places t s = (Held b × Ordered s) × (((v < s .n) × (i ≤ base .top) × RowBelow i v s) × (HoldsWaiting places t s × (t .draws ≤ takeLimit)))
+abbrev pub Scans : Shape → List ℕ → ℕ → ℕ → List ℕ → Tally → State → Type 0
+Scans S b i v places t s = (Held S b × Ordered s) × (((v < s .n) × (i ≤ base .top) × RowBelow i v s) × (HoldsWaiting places t s × (t .draws ≤ takeLimit S)))
 
-module _ {bs places : List ℕ} {t : Tally} {i v k : ℕ} {b places′ : List ℕ} {t′ : Tally} (a : Fallen bs places t i v k b places′ t′) where
-  fallen-kept : SameEdges (read bs) (ranked v i (read bs))
-  fallen-kept = fall-kept (read bs) (a .held .proper) (a .ordered) i v (a .falls .inside) (a .falls .rank) (a .falls .row)
+module _ {S : Shape} {bs places : List ℕ} {t : Tally} {i v k : ℕ} {b places′ : List ℕ} {t′ : Tally} (a : Fallen S bs places t i v k b places′ t′) where
+  fallen-kept : SameEdges S (read S bs) (ranked v i (read S bs))
+  fallen-kept = fall-kept (read S bs) (a .held .proper) (a .ordered) i v (a .falls .inside) (a .falls .rank) (a .falls .row)
 
-  fallen-read : read b ≡ ranked v i (read bs)
-  fallen-read = reads-as b (ranked v i (read bs)) (a .bytes) (fallen-kept .proper)
+  fallen-read : read S b ≡ ranked v i (read S bs)
+  fallen-read = reads-as b (ranked v i (read S bs)) (a .bytes) (fallen-kept .proper)
 
-  pub fallen-scans : t .draws ≤ takeLimit → Scans b i v places′ t′ (read b)
+  pub fallen-scans : t .draws ≤ takeLimit S → Scans S b i v places′ t′ (read S b)
   fallen-scans x =
-      subst (Scans b i v places′ t′) (sym fallen-read) (
-        (held-of b (ranked v i (read bs)) (a .bytes) (fallen-kept .proper), fallen-kept .ordered),
+      subst (Scans S b i v places′ t′) (sym fallen-read) (
+        (held-of b (ranked v i (read S bs)) (a .bytes) (fallen-kept .proper), fallen-kept .ordered),
         (
           (
             omega (arith, fallen-kept .size, a .falls .inside),
             a .falls .level,
-            ranked-row (read bs) (a .held .proper) i v i (a .falls .row),
+            ranked-row (read S bs) (a .held .proper) i v i (a .falls .row),
           ),
           (fallen-holds (a .long) (a .holds) i (a .joined) (a .falls .inside) (a .falls .free), omega (arith, a .joined .draws)),
         ),
@@ -155,26 +156,26 @@ module _ {bs places : List ℕ} {t : Tally} {i v k : ℕ} {b places′ : List �
 
   -- the run that goes on from there is the definition's
   module _ (t₀ : Tally) (e : (t .draws ≡ t₀ .draws) × (t .falls ≡ suc (t₀ .falls)) × (t .waiting ≡ t₀ .waiting)) where
-    fallen-run : SameRun (running b places′ t′) (fall i v (running bs places t₀))
+    fallen-run : SameRun (running S b places′ t′) (fall i v (running S bs places t₀))
     unfolding fall ranked
     fallen-run = record {
       state = fallen-read;
       queues = levels-as places′ t′ fallen-read ∙ fallen-levels (a .long) (a .holds) i (a .joined) (a .falls .inside) (a .falls .free)
-          ∙ ap (λ (x : ℕ). join v i (queuesIn (read bs .rank) (first x places))) (e .2);
+          ∙ ap (λ (x : ℕ). join v i (queuesIn (read S bs .rank) (first x places))) (e .2);
       draws = omega (arith, a .joined .draws, e .0);
       falls = omega (arith, a .joined .falls, e .1);
     }
 
-    pub fallen-left : (words : List ℕ) {places″ d : List ℕ} {r : Tally} → Left (scanFrom base words i v (running b places′ t′)) d places″ r
-        → Left (scanFrom base words i v (fall i v (running bs places t₀))) d places″ r
+    pub fallen-left : (words : List ℕ) {places″ d : List ℕ} {r : Tally} → Left (scanFrom base words i v (running S b places′ t′)) d places″ r
+        → Left (scanFrom base words i v (fall i v (running S bs places t₀))) d places″ r
     fallen-left words c = left-same (scanFrom-same base words i v fallen-run) c
 
     -- all counts at i are below the threshold: nobody rises
-    pub fallen-low : (words : List ℕ) → ((w : ℕ) → T (read bs .owns v w) → phi (ranked v i (read bs)) w i < base .thr i) → t .draws ≤ takeLimit
-        → Left (scanFrom base words i v (fall i v (running bs places t₀))) b places′ t′
+    pub fallen-low : (words : List ℕ) → ((w : ℕ) → T (read S bs .owns v w) → phi (ranked v i (read S bs)) w i < base .thr i) → t .draws ≤ takeLimit S
+        → Left (scanFrom base words i v (fall i v (running S bs places t₀))) b places′ t′
     unfolding fall ranked
     fallen-low words low x =
         let g = fallen-scans x in
-        let r : Run = fall i v (running bs places t₀) in
-        rw (scanFrom-loop base words i v r ∙ upto-quiet words i (read bs .owns v) (read bs .n) r (λ w o u. omega (arith, low w o, due-reached i w (r .state) u)))
+        let r : Run = fall i v (running S bs places t₀) in
+        rw (scanFrom-loop base words i v r ∙ upto-quiet words i (read S bs .owns v) (read S bs .n) r (λ w o u. omega (arith, low w o, due-reached i w (r .state) u)))
         (left-same fallen-run (record { rack = g .0 .0 .written; queues = refl; draws = refl; falls = refl; holds = g .1 .1 .0 }))

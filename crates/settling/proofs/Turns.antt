@@ -4,6 +4,7 @@ use mathlib.Core.List.{List}
 use Prim.Native.Nat.{ℕ, _≤_, _<_}
 use native.Mathlib.Omega.{arith}
 use lib.Dec.{T, leb, leb→le, le→leb}
+use Rattle.model.specs.Shape.{Shape}
 use Rattle.model.specs.State.{base, phi}
 use Rattle.model.specs.Bytes.{rankAt, phiAt, read}
 use Rattle.model.specs.Moves.{due, promote}
@@ -16,39 +17,39 @@ use Rattle.settling.proofs.Entries.{level-small}
 use Rattle.settling.proofs.News.{visited-yes, visited-no}
 
 -- the bytes hold a state, of which w is a vertex
-pub record Visiting (bs : List ℕ) (i w : ℕ) : Type 0 where
-  pub held : Held bs
-  pub inside : w < read bs .n
+pub record Visiting (S : Shape) (bs : List ℕ) (i w : ℕ) : Type 0 where
+  pub held : Held S bs
+  pub inside : w < read S bs .n
   pub level : i ≤ base .top
 
-module _ {bs : List ℕ} {i w : ℕ} (a : Visiting bs i w) where
-  turn-rank : rankAt bs w ≡ read bs .rank w
+module _ {S : Shape} {bs : List ℕ} {i w : ℕ} (a : Visiting S bs i w) where
+  turn-rank : rankAt bs w ≡ read S bs .rank w
   turn-rank = held-rank (a .held) w (held-small (a .held) w (a .inside))
 
-  turn-phi : phiAt bs w i ≡ phi (read bs) w i
-  turn-phi = held-phi (a .held) w i (held-small (a .held) w (a .inside)) (level-small i (a .level))
+  turn-phi : phiAt S bs w i ≡ phi (read S bs) w i
+  turn-phi = held-phi (a .held) w i (held-small (a .held) w (a .inside)) (level-small (a .held) i (a .level))
 
-  pub turn-high : i < rankAt bs w → T (due base i w (read bs)) → ⊥
+  pub turn-high : i < rankAt bs w → T (due base i w (read S bs)) → ⊥
   unfolding due
-  turn-high h t = omega (arith, leb→le (read bs .rank w) i (and-left (leb (read bs .rank w) i) _ t), turn-rank)
+  turn-high h t = omega (arith, leb→le (read S bs .rank w) i (and-left (leb (read S bs .rank w) i) _ t), turn-rank)
 
-  pub turn-few : phiAt bs w i < base .thr i → T (due base i w (read bs)) → ⊥
+  pub turn-few : phiAt S bs w i < base .thr i → T (due base i w (read S bs)) → ⊥
   unfolding due
-  turn-few h t = omega (arith, leb→le (base .thr i) (phi (read bs) w i) (and-right (leb (read bs .rank w) i) _ t), turn-phi)
+  turn-few h t = omega (arith, leb→le (base .thr i) (phi (read S bs) w i) (and-right (leb (read S bs .rank w) i) _ t), turn-phi)
 
-  pub turn-due : rankAt bs w ≤ i → base .thr i ≤ phiAt bs w i → T (due base i w (read bs))
+  pub turn-due : rankAt bs w ≤ i → base .thr i ≤ phiAt S bs w i → T (due base i w (read S bs))
   unfolding due
   turn-due h k =
-      and-intro (leb (read bs .rank w) i) (leb (base .thr i) (phi (read bs) w i))
-      (le→leb (read bs .rank w) i (omega (arith, turn-rank))) (le→leb (base .thr i) (phi (read bs) w i) (omega (arith, turn-phi)))
+      and-intro (leb (read S bs .rank w) i) (leb (base .thr i) (phi (read S bs) w i))
+      (le→leb (read S bs .rank w) i (omega (arith, turn-rank))) (le→leb (base .thr i) (phi (read S bs) w i) (omega (arith, turn-phi)))
 
   -- a vertex that is not due is passed over
-  pub turn-passed : (words : List ℕ) {places : List ℕ} (t : Tally) → HoldsWaiting places t (read bs) → (T (due base i w (read bs)) → ⊥)
-      → Left (visited base words i w (running bs places t)) bs places t
+  pub turn-passed : (words : List ℕ) {places : List ℕ} (t : Tally) → HoldsWaiting places t (read S bs) → (T (due base i w (read S bs)) → ⊥)
+      → Left (visited base words i w (running S bs places t)) bs places t
   turn-passed words {places} t c n =
-      rw (visited-no base words i w (running bs places t) n)
+      rw (visited-no base words i w (running S bs places t) n)
       (record { rack = a .held .written; queues = refl; draws = refl; falls = refl; holds = c })
 
-  pub turn-promoted : (words places : List ℕ) {places′ d : List ℕ} (t : Tally) {r : Tally} → T (due base i w (read bs))
-      → Left (promote words i w (running bs places t)) d places′ r → Left (visited base words i w (running bs places t)) d places′ r
-  turn-promoted words places t n c = rw (visited-yes base words i w (running bs places t) n) c
+  pub turn-promoted : (words places : List ℕ) {places′ d : List ℕ} (t : Tally) {r : Tally} → T (due base i w (read S bs))
+      → Left (promote words i w (running S bs places t)) d places′ r → Left (visited base words i w (running S bs places t)) d places′ r
+  turn-promoted words places t n c = rw (visited-yes base words i w (running S bs places t) n) c

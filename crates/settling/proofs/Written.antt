@@ -6,6 +6,7 @@ use Prim.Native.Nat.{ℕ, suc, _≤_, _<_}
 use native.Mathlib.Omega.{arith}
 use lib.Dec.{T}
 use lib.ListN.{length, take}
+use Rattle.model.specs.Shape.{Shape}
 use Rattle.model.specs.State.{base, State, near, below}
 use Rattle.model.specs.Bytes.{phiAt, read, write}
 use Rattle.model.specs.Moves.{Run, lifted, part, rise, marry, chosen, drawn, draw, promote}
@@ -38,17 +39,17 @@ left-same {r} {q} {bs} {places} {t} e a = record {
 }
 
 -- where its state is proper, the bytes that a run leaves hold that state
-pub left-run : {r : Run} {bs places : List ℕ} {t : Tally} → Left r bs places t → Proper (r .state) → SameRun (running bs places t) r
-left-run {r} {bs} {places} {t} a p =
-    let e : read bs ≡ r .state = reads-as bs (r .state) (a .rack) p in
+pub left-run : {S : Shape} {r : Run} {bs places : List ℕ} {t : Tally} → Left r bs places t → Proper S (r .state) → SameRun (running S bs places t) r
+left-run {S} {r} {bs} {places} {t} a p =
+    let e : read S bs ≡ r .state = reads-as bs (r .state) (a .rack) p in
     record { state = e; queues = levels-as places t e ∙ a .queues; draws = a .draws; falls = a .falls }
 
 -- the bytes hold an ordered state in which v stands below level i
-pub record Rising (bs : List ℕ) (i v : ℕ) : Type 0 where
-  pub held : Held bs
-  pub ordered : Ordered (read bs)
-  pub inside : v < read bs .n
-  pub low : read bs .rank v ≤ i
+pub record Rising (S : Shape) (bs : List ℕ) (i v : ℕ) : Type 0 where
+  pub held : Held S bs
+  pub ordered : Ordered (read S bs)
+  pub inside : v < read S bs .n
+  pub low : read S bs .rank v ≤ i
   pub level : i ≤ base .top
 
 -- what a rise of v to level i asks of a state
@@ -56,75 +57,75 @@ abbrev pub Rises : ℕ → ℕ → State → Type 0
 Rises i v s = ((v < s .n) × (s .rank v ≤ i) × (i ≤ base .top)) × ((w : ℕ) → T (s .owns v w) → s .rank w ≤ i)
 
 -- what a draw at u among k asks of the bytes, their state, the queue and the tally
-abbrev pub Draws : List ℕ → ℕ → ℕ → ℕ → List ℕ → Tally → State → Type 0
-Draws b i u k places t s =
-    (Held b × Ordered s) × (
+abbrev pub Draws : Shape → List ℕ → ℕ → ℕ → ℕ → List ℕ → Tally → State → Type 0
+Draws S b i u k places t s =
+    (Held S b × Ordered s) × (
     ((u < s .n) × (s .mate u ≡ u) × (s .rank u ≡ suc i) × (i ≤ base .top))
     × ((RowBelow i u s × (1 ≤ below s u i) × (k ≡ below s u i)) × (HoldsWaitingBut u places t s × (t .draws ≤ drawLimit)))
     )
 
-pub draws-of : {b places : List ℕ} (s : State) → b ≡ write s → Proper s → (i u k : ℕ) (t : Tally) → Draws b i u k places t s
-    → Draws b i u k places t (read b)
-draws-of {b} {places} s e p i u k t a = subst (Draws b i u k places t) (sym (reads-as b s e p)) a
+pub draws-of : {S : Shape} {b places : List ℕ} (s : State) → b ≡ write s → Proper S s → (i u k : ℕ) (t : Tally) → Draws S b i u k places t s
+    → Draws S b i u k places t (read S b)
+draws-of {S} {b} {places} s e p i u k t a = subst (Draws S b i u k places t) (sym (reads-as b s e p)) a
 
 -- after its rise, a vertex's row holds exactly its neighbours below the level
-lift-row : (s : State) → Proper s → Ordered s → (i u : ℕ) → u < s .n → s .rank u ≤ i → RowBelow i u (rise i u (part u s))
+lift-row : {S : Shape} (s : State) → Proper S s → Ordered s → (i u : ℕ) → u < s .n → s .rank u ≤ i → RowBelow i u (rise i u (part u s))
 unfolding part
-lift-row s p o i u l m =
-    let q : Proper (part u s) = part-proper s p u l in
+lift-row {S} s p o i u l m =
+    let q : Proper S (part u s) = part-proper s p u l in
     subst (RowBelow i u) (rise-halves (part u s) q i u)
     (ranked-row (tookOver i u (part u s)) (took-proper (part u s) q i u l) i u (suc i) (took-row (part u s) q i u (λ w t. omega (arith, o u w t))))
 
 -- the state after v is parted, and after it has risen
-module _ {bs : List ℕ} {i v : ℕ} (a : Rising bs i v) where
-  parted-proper : Proper (part v (read bs))
-  parted-proper = part-proper (read bs) (a .held .proper) v (a .inside)
+module _ {S : Shape} {bs : List ℕ} {i v : ℕ} (a : Rising S bs i v) where
+  parted-proper : Proper S (part v (read S bs))
+  parted-proper = part-proper (read S bs) (a .held .proper) v (a .inside)
 
-  lifted-kept : SameEdges (read bs) (rise i v (part v (read bs)))
-  lifted-kept = lift-kept (read bs) (a .held .proper) (a .ordered) i v (a .inside) (a .low) (a .level)
+  lifted-kept : SameEdges S (read S bs) (rise i v (part v (read S bs)))
+  lifted-kept = lift-kept (read S bs) (a .held .proper) (a .ordered) i v (a .inside) (a .low) (a .level)
 
-module _ {bs : List ℕ} {i v : ℕ} (a : Rising bs i v) {b : List ℕ} where
+module _ {S : Shape} {bs : List ℕ} {i v : ℕ} (a : Rising S bs i v) {b : List ℕ} where
   -- the bytes after v is parted
-  parted-read : b ≡ write (part v (read bs)) → read b ≡ part v (read bs)
-  parted-read e = reads-as b (part v (read bs)) e (parted-proper a)
+  parted-read : b ≡ write (part v (read S bs)) → read S b ≡ part v (read S bs)
+  parted-read e = reads-as b (part v (read S bs)) e (parted-proper a)
 
-  pub parted-rises : b ≡ write (part v (read bs)) → Held b × Rises i v (read b)
+  pub parted-rises : b ≡ write (part v (read S bs)) → Held S b × Rises i v (read S b)
   unfolding part
   parted-rises e = (
-    held-of b (part v (read bs)) e (parted-proper a),
+    held-of b (part v (read S bs)) e (parted-proper a),
     subst (Rises i v) (sym (parted-read e)) ((a .inside, a .low, a .level), (λ w t. omega (arith, a .low, a .ordered v w t))),
   )
 
-  pub parted-lifts : b ≡ write (part v (read bs)) → {d : List ℕ} → d ≡ write (rise i v (read b)) → d ≡ write (rise i v (part v (read bs)))
+  pub parted-lifts : b ≡ write (part v (read S bs)) → {d : List ℕ} → d ≡ write (rise i v (read S b)) → d ≡ write (rise i v (part v (read S bs)))
   parted-lifts e f = f ∙ ap (λ (s : State). write (rise i v s)) (parted-read e)
 
   -- the bytes after v is parted and has risen
-  pub lifted-read : b ≡ write (rise i v (part v (read bs))) → read b ≡ rise i v (part v (read bs))
-  lifted-read e = reads-as b (rise i v (part v (read bs))) e (lifted-kept a .proper)
+  pub lifted-read : b ≡ write (rise i v (part v (read S bs))) → read S b ≡ rise i v (part v (read S bs))
+  lifted-read e = reads-as b (rise i v (part v (read S bs))) e (lifted-kept a .proper)
 
-  pub lifted-held : b ≡ write (rise i v (part v (read bs))) → Held b
-  lifted-held e = held-of b (rise i v (part v (read bs))) e (lifted-kept a .proper)
+  pub lifted-held : b ≡ write (rise i v (part v (read S bs))) → Held S b
+  lifted-held e = held-of b (rise i v (part v (read S bs))) e (lifted-kept a .proper)
 
   -- v draws next
-  module _ (e : b ≡ write (rise i v (part v (read bs)))) {places places′ : List ℕ} {t t′ : Tally} (h : HoldsWaiting places t (read bs))
-      (q : Requeued (partQueue (marks (read bs)) v (queueIn places t)) t places′ t′) (long : length places′ ≡ length places) where
+  module _ (e : b ≡ write (rise i v (part v (read S bs)))) {places places′ : List ℕ} {t t′ : Tally} (h : HoldsWaiting places t (read S bs))
+      (q : Requeued (partQueue (marks (read S bs)) v (queueIn places t)) t places′ t′) (long : length places′ ≡ length places) where
     -- its count before the rise is how many it draws among
-    lifted-count : phiAt bs v i ≡ below (rise i v (part v (read bs))) v i
+    lifted-count : phiAt S bs v i ≡ below (rise i v (part v (read S bs))) v i
     lifted-count =
-        held-phi (a .held) v i (held-small (a .held) v (a .inside)) (level-small i (a .level))
-        ∙ phi-above (read bs) v i (a .low) ∙ sym (lift-below (read bs) (a .held .proper) (a .ordered) i v (a .inside))
+        held-phi (a .held) v i (held-small (a .held) v (a .inside)) (level-small (a .held) i (a .level))
+        ∙ phi-above (read S bs) v i (a .low) ∙ sym (lift-below (read S bs) (a .held .proper) (a .ordered) i v (a .inside))
 
-    pub lifted-draws : (k : ℕ) → 1 ≤ below (read bs) v i → t .draws ≤ drawLimit → k ≡ phiAt bs v i → Draws b i v k places′ t′ (read b)
+    pub lifted-draws : (k : ℕ) → 1 ≤ below (read S bs) v i → t .draws ≤ drawLimit → k ≡ phiAt S bs v i → Draws S b i v k places′ t′ (read S b)
     lifted-draws k n x g =
-        let s : State = rise i v (part v (read bs)) in
+        let s : State = rise i v (part v (read S bs)) in
         draws-of s e (lifted-kept a .proper) i v k t′ (
           (lifted-held e, lifted-kept a .ordered),
           (
-            (omega (arith, lifted-kept a .size, a .inside), lift-is i v (read bs) .mate-w, lift-is i v (read bs) .rank-w, a .level),
+            (omega (arith, lifted-kept a .size, a .inside), lift-is i v (read S bs) .mate-w, lift-is i v (read S bs) .rank-w, a .level),
             (
               (
-                lift-row (read bs) (a .held .proper) (a .ordered) i v (a .inside) (a .low),
-                omega (arith, lift-below (read bs) (a .held .proper) (a .ordered) i v (a .inside)),
+                lift-row (read S bs) (a .held .proper) (a .ordered) i v (a .inside) (a .low),
+                omega (arith, lift-below (read S bs) (a .held .proper) (a .ordered) i v (a .inside)),
                 g ∙ lifted-count,
               ),
               (risen-holds long h q i (a .inside), omega (arith, q .draws)),
@@ -132,11 +133,11 @@ module _ {bs : List ℕ} {i v : ℕ} (a : Rising bs i v) {b : List ℕ} where
           ),
         )
 
-    pub promoted-left : (words : List ℕ) {places″ d : List ℕ} {r : Tally} → Left (draw words i v (running b places′ t′)) d places″ r
-        → Left (promote words i v (running bs places t)) d places″ r
+    pub promoted-left : (words : List ℕ) {places″ d : List ℕ} {r : Tally} → Left (draw words i v (running S b places′ t′)) d places″ r
+        → Left (promote words i v (running S bs places t)) d places″ r
     unfolding promote
     promoted-left words c =
-        let same : SameRun (running b places′ t′) (lifted i v (running bs places t)) = record {
+        let same : SameRun (running S b places′ t′) (lifted i v (running S bs places t)) = record {
           state = lifted-read e;
           queues = levels-as places′ t′ (lifted-read e) ∙ risen-levels long h q i (a .inside);
           draws = q .draws;
@@ -145,44 +146,44 @@ module _ {bs : List ℕ} {i v : ℕ} (a : Rising bs i v) {b : List ℕ} where
         left-same (draw-same words i v same) c
 
 -- y is a neighbour of u below level i
-pub record Drawing (bs : List ℕ) (i u y : ℕ) : Type 0 where
-  pub rising : Rising bs i y
-  pub inside : u < read bs .n
-  pub free : read bs .mate u ≡ u
-  pub rank : read bs .rank u ≡ suc i
-  pub near : T (near (read bs) u i y)
+pub record Drawing (S : Shape) (bs : List ℕ) (i u y : ℕ) : Type 0 where
+  pub rising : Rising S bs i y
+  pub inside : u < read S bs .n
+  pub free : read S bs .mate u ≡ u
+  pub rank : read S bs .rank u ≡ suc i
+  pub near : T (near (read S bs) u i y)
 
-pub drawing-of : {bs : List ℕ} {i u y : ℕ} → Held bs → Ordered (read bs)
-    → (u < read bs .n) × (read bs .mate u ≡ u) × (read bs .rank u ≡ suc i) × (i ≤ base .top) → T (near (read bs) u i y) → Drawing bs i u y
-drawing-of {bs} {i} {u} {y} h o l n = record {
-  rising = record { held = h; ordered = o; inside = near-inside (read bs) (h .proper) u i y n; low = near-low (read bs) u i y n; level = l .3 };
+pub drawing-of : {S : Shape} {bs : List ℕ} {i u y : ℕ} → Held S bs → Ordered (read S bs)
+    → (u < read S bs .n) × (read S bs .mate u ≡ u) × (read S bs .rank u ≡ suc i) × (i ≤ base .top) → T (near (read S bs) u i y) → Drawing S bs i u y
+drawing-of {S} {bs} {i} {u} {y} h o l n = record {
+  rising = record { held = h; ordered = o; inside = near-inside (read S bs) (h .proper) u i y n; low = near-low (read S bs) u i y n; level = l .3 };
   inside = l .0;
   free = l .1;
   rank = l .2;
   near = n;
 }
 
-pub drawing-other : {bs : List ℕ} {i u y : ℕ} → Drawing bs i u y → u ≢ y
-drawing-other {bs} {i} {u} {y} a = near-other (read bs) (a .rising .held .proper) u i y (a .near)
+pub drawing-other : {S : Shape} {bs : List ℕ} {i u y : ℕ} → Drawing S bs i u y → u ≢ y
+drawing-other {S} {bs} {i} {u} {y} a = near-other (read S bs) (a .rising .held .proper) u i y (a .near)
 
 -- u has drawn y, which is parted and has risen
-module _ {bs : List ℕ} {i u y : ℕ} (a : Drawing bs i u y) {b : List ℕ} (e : b ≡ write (rise i y (part y (read bs)))) where
-  pub lifted-pairs : Held b × ((u < read b .n) × (y < read b .n) × (u ≢ y))
+module _ {S : Shape} {bs : List ℕ} {i u y : ℕ} (a : Drawing S bs i u y) {b : List ℕ} (e : b ≡ write (rise i y (part y (read S bs)))) where
+  pub lifted-pairs : Held S b × ((u < read S b .n) × (y < read S b .n) × (u ≢ y))
   unfolding rise part
   lifted-pairs = (
     lifted-held (a .rising) e,
     subst (λ (s : State). (u < s .n) × (y < s .n) × (u ≢ y)) (sym (lifted-read (a .rising) e)) (a .inside, a .rising .inside, drawing-other a),
   )
 
-  module _ {places places′ : List ℕ} {t t′ : Tally} (h : HoldsWaitingBut u places t (read bs))
-      (q : Requeued (partQueue (marks (read bs)) y (queueIn places t)) t places′ t′) (long : length places′ ≡ length places) where
-    pub drawn-left : (words : List ℕ) {d : List ℕ} {r : Tally} → y ≡ chosen words i u (running bs [] t) → d ≡ write (marry u y (read b))
-        → (r .draws ≡ suc (t′ .draws)) × (r .falls ≡ t′ .falls) × (r .waiting ≡ t′ .waiting) → Left (draw words i u (running bs places t)) d places′ r
+  module _ {places places′ : List ℕ} {t t′ : Tally} (h : HoldsWaitingBut u places t (read S bs))
+      (q : Requeued (partQueue (marks (read S bs)) y (queueIn places t)) t places′ t′) (long : length places′ ≡ length places) where
+    pub drawn-left : (words : List ℕ) {d : List ℕ} {r : Tally} → y ≡ chosen words i u (running S bs [] t) → d ≡ write (marry u y (read S b))
+        → (r .draws ≡ suc (t′ .draws)) × (r .falls ≡ t′ .falls) × (r .waiting ≡ t′ .waiting) → Left (draw words i u (running S bs places t)) d places′ r
     unfolding draw drawn chosen
     drawn-left words {d} {r} c f g =
-        subst (λ (x : ℕ). Left (drawn i u x (running bs places t)) d places′ r) c (record {
+        subst (λ (x : ℕ). Left (drawn i u x (running S bs places t)) d places′ r) c (record {
           rack = f ∙ ap (λ (s : State). write (marry u y s)) (lifted-read (a .rising) e);
-          queues = ap (λ (k : ℕ). queuesIn (marry u y (rise i y (part y (read bs))) .rank) (take k places′)) (g .2)
+          queues = ap (λ (k : ℕ). queuesIn (marry u y (rise i y (part y (read S bs))) .rank) (take k places′)) (g .2)
               ∙ drawn-levels long h q i (drawing-other a) (a .free) (a .rank) (a .rising .inside);
           draws = omega (arith, g .0, q .draws);
           falls = omega (arith, g .1, q .falls);

@@ -4,9 +4,10 @@ use mathlib.Core.Path.{_≡_}
 use mathlib.Core.Logic.{_≢_}
 use mathlib.Core.Bool.{true, false}
 use mathlib.Core.List.{List, []}
-use Prim.Native.Nat.{ℕ, suc, _≤_, _<_}
+use Prim.Native.Nat.{ℕ, suc, _-_, _≤_, _<_}
 use lib.ListN.{length, take}
 use Rattle.model.specs.Lists.{Mem, Distinct, Lists}
+use Rattle.model.specs.Shape.{Shape}
 use Rattle.model.specs.State.{Rules, State, base, below}
 use Rattle.model.specs.Bytes.{read, write}
 use Rattle.model.specs.Moves.{Run, due, promote, Found, none, found}
@@ -21,10 +22,10 @@ abbrev pub queueIn : List ℕ → Tally → List ℕ
 queueIn places t = take (t .waiting) places
 
 -- the run that goes on from the bytes, the queue and the tally
-abbrev pub running : List ℕ → List ℕ → Tally → Run
-running bs places t = record {
-  state = read bs;
-  queues = queuesIn (read bs .rank) (queueIn places t);
+abbrev pub running : Shape → List ℕ → List ℕ → Tally → Run
+running S bs places t = record {
+  state = read S bs;
+  queues = queuesIn (read S bs .rank) (queueIn places t);
   news = [];
   draws = t .draws;
   falls = t .falls;
@@ -61,20 +62,24 @@ pub record Requeued (l : List ℕ) (t : Tally) (places : List ℕ) (t′ : Tally
   pub falls : t′ .falls ≡ t .falls
 
 -- v, which is free, can fall from level i: it owns edges to vertices below i alone, k of them
-pub record Falling (bs : List ℕ) (i v k : ℕ) : Type 0 where
-  pub inside : v < read bs .n
-  pub free : read bs .mate v ≡ v
-  pub rank : read bs .rank v ≡ suc i
+pub record Falling (S : Shape) (bs : List ℕ) (i v k : ℕ) : Type 0 where
+  pub inside : v < read S bs .n
+  pub free : read S bs .mate v ≡ v
+  pub rank : read S bs .rank v ≡ suc i
   pub level : i ≤ base .top
-  pub row : RowBelow i v (read bs)
-  pub size : k ≡ below (read bs) v i
+  pub row : RowBelow i v (read S bs)
+  pub size : k ≡ below (read S bs) v i
 
--- how far a figure may have come for one more draw or fall to be counted, and for a whole taking, whose scan draws at most once for each vertex
+-- The largest figure that four bytes hold. So far may a figure have come for one draw or fall more to be counted, and so far for a whole taking,
+-- which draws at most once for each vertex and once more.
+abbrev pub largestFigure : ℕ
+largestFigure = 4294967295
+
 abbrev pub drawLimit : ℕ
-drawLimit = 1000000
+drawLimit = largestFigure - 1
 
-abbrev pub takeLimit : ℕ
-takeLimit = 900000
+abbrev pub takeLimit : Shape → ℕ
+takeLimit S = drawLimit - S .most
 
 -- a tally of at most d draws and f falls, so that there is room for more
 pub record Room (d f : ℕ) (t : Tally) : Type 0 where

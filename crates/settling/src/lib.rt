@@ -5,6 +5,7 @@ ghost use mathlib.Core.List.{[], _∷_, _++_};
 ghost use Prim.Native.Nat.{suc, _<_, _≤_};
 ghost use lib.Dec.{T};
 ghost use lib.ListN.{length, getD, take as front};
+ghost use Rattle.model.specs.Shape.{low};
 ghost use Rattle.model.specs.Lists.{All, Mem, Distinct};
 ghost use Rattle.model.specs.State.{base, near, below};
 ghost use Rattle.model.specs.Bytes.{read, write};
@@ -54,9 +55,9 @@ fn leave(queue: &mut [u16], v: usize, tally: Tally) -> Tally
 
 // v is about to be parted and to rise: its mate joins the queue, and a v without a mate is in it no longer.
 fn requeue(rack: &[u8], queue: &mut [u16], v: usize, tally: Tally) -> Tally
-    requires { ⌜ (Held (now rack)) × (v < read (now rack) .n) ⌝ }
-    requires { ⌜ CanPart (read (now rack)) v (now queue) tally ⌝ }
-    ensures { λ r. ⌜ Requeued (partQueue (marks (read (now (rack .entry)))) v (queueIn (now (queue .entry)) tally)) tally (now (queue .exit)) r ⌝ }
+    requires { ⌜ (Held low (now rack)) × (v < read low (now rack) .n) ⌝ }
+    requires { ⌜ CanPart (read low (now rack)) v (now queue) tally ⌝ }
+    ensures { λ r. ⌜ Requeued (partQueue (marks (read low (now (rack .entry)))) v (queueIn (now (queue .entry)) tally)) tally (now (queue .exit)) r ⌝ }
 {
     let m = layout::mate(rack, v);
     if m != layout::NO_MATE {
@@ -70,9 +71,9 @@ fn requeue(rack: &[u8], queue: &mut [u16], v: usize, tally: Tally) -> Tally
 
 // The vertex that the next word draws: u's row holds its neighbours below level i, k of them, and trailing zeros lead to the place in it.
 fn choose(rack: &[u8], words: &[u32], u: usize, i: usize, k: usize, tally: Tally) -> usize
-    requires { ⌜ Held (now rack) ⌝ }
-    requires { ⌜ (u < read (now rack) .n) × (RowBelow i u (read (now rack))) × (1 ≤ below (read (now rack)) u i) × (k ≡ below (read (now rack)) u i) ⌝ }
-    ensures { λ r. ⌜ (r ≡ chosen (now (words .entry)) i u (running (now (rack .entry)) [] tally)) × (T (near (read (now (rack .entry))) u i r)) ⌝ }
+    requires { ⌜ Held low (now rack) ⌝ }
+    requires { ⌜ (u < read low (now rack) .n) × (RowBelow i u (read low (now rack))) × (1 ≤ below (read low (now rack)) u i) × (k ≡ below (read low (now rack)) u i) ⌝ }
+    ensures { λ r. ⌜ (r ≡ chosen (now (words .entry)) i u (running low (now (rack .entry)) [] tally)) × (T (near (read low (now (rack .entry))) u i r)) ⌝ }
 {
     let word = nth_word(words, tally.draws as usize);
     layout::nth_owned(rack, u, word as usize % k)
@@ -80,11 +81,11 @@ fn choose(rack: &[u8], words: &[u32], u: usize, i: usize, k: usize, tally: Tally
 
 // v loses its mate if it has one, which joins the queue, and rises to i.
 fn lift(rack: &mut [u8], queue: &mut [u16], v: usize, i: usize, tally: Tally) -> Tally
-    requires { ⌜ (Held (now rack)) × (Ordered (read (now rack))) ⌝ }
-    requires { ⌜ (v < read (now rack) .n) × (read (now rack) .rank v ≤ i) × (i ≤ base .top) ⌝ }
-    requires { ⌜ CanPart (read (now rack)) v (now queue) tally ⌝ }
-    ensures { λ _. ⌜ now (rack .exit) ≡ write (risen i v (parted v (read (now (rack .entry))))) ⌝ }
-    ensures { λ r. ⌜ Requeued (partQueue (marks (read (now (rack .entry)))) v (queueIn (now (queue .entry)) tally)) tally (now (queue .exit)) r ⌝ }
+    requires { ⌜ (Held low (now rack)) × (Ordered (read low (now rack))) ⌝ }
+    requires { ⌜ (v < read low (now rack) .n) × (read low (now rack) .rank v ≤ i) × (i ≤ base .top) ⌝ }
+    requires { ⌜ CanPart (read low (now rack)) v (now queue) tally ⌝ }
+    ensures { λ _. ⌜ now (rack .exit) ≡ write (risen i v (parted v (read low (now (rack .entry))))) ⌝ }
+    ensures { λ r. ⌜ Requeued (partQueue (marks (read low (now (rack .entry)))) v (queueIn (now (queue .entry)) tally)) tally (now (queue .exit)) r ⌝ }
 {
     let t = requeue(rack, queue, v, tally);
     moves::part(rack, v);
@@ -102,11 +103,11 @@ fn draw(
     k: usize,
     tally: Tally,
 ) -> Tally
-    requires { ⌜ (Held (now rack)) × (Ordered (read (now rack))) ⌝ }
-    requires { ⌜ (u < read (now rack) .n) × (read (now rack) .mate u ≡ u) × (read (now rack) .rank u ≡ suc i) × (i ≤ base .top) ⌝ }
-    requires { ⌜ (RowBelow i u (read (now rack))) × (1 ≤ below (read (now rack)) u i) × (k ≡ below (read (now rack)) u i) ⌝ }
-    requires { ⌜ (HoldsWaitingBut u (now queue) tally (read (now rack))) × (tally .draws ≤ drawLimit) ⌝ }
-    ensures { λ r. ⌜ Left (drawn (now (words .entry)) i u (running (now (rack .entry)) (now (queue .entry)) tally)) (now (rack .exit)) (now (queue .exit)) r ⌝ }
+    requires { ⌜ (Held low (now rack)) × (Ordered (read low (now rack))) ⌝ }
+    requires { ⌜ (u < read low (now rack) .n) × (read low (now rack) .mate u ≡ u) × (read low (now rack) .rank u ≡ suc i) × (i ≤ base .top) ⌝ }
+    requires { ⌜ (RowBelow i u (read low (now rack))) × (1 ≤ below (read low (now rack)) u i) × (k ≡ below (read low (now rack)) u i) ⌝ }
+    requires { ⌜ (HoldsWaitingBut u (now queue) tally (read low (now rack))) × (tally .draws ≤ drawLimit) ⌝ }
+    ensures { λ r. ⌜ Left (drawn (now (words .entry)) i u (running low (now (rack .entry)) (now (queue .entry)) tally)) (now (rack .exit)) (now (queue .exit)) r ⌝ }
 {
     let y = choose(rack, words, u, i, k, tally);
     let t = lift(rack, queue, y, i, tally);
@@ -123,10 +124,10 @@ pub fn promote(
     i: usize,
     tally: Tally,
 ) -> Tally
-    requires { ⌜ (Held (now rack)) × (Ordered (read (now rack))) ⌝ }
-    requires { ⌜ (u < read (now rack) .n) × (read (now rack) .rank u ≤ i) × (i ≤ base .top) × (1 ≤ below (read (now rack)) u i) ⌝ }
-    requires { ⌜ (HoldsWaiting (now queue) tally (read (now rack))) × (tally .draws ≤ drawLimit) ⌝ }
-    ensures { λ r. ⌜ Left (promoted (now (words .entry)) i u (running (now (rack .entry)) (now (queue .entry)) tally)) (now (rack .exit)) (now (queue .exit)) r ⌝ }
+    requires { ⌜ (Held low (now rack)) × (Ordered (read low (now rack))) ⌝ }
+    requires { ⌜ (u < read low (now rack) .n) × (read low (now rack) .rank u ≤ i) × (i ≤ base .top) × (1 ≤ below (read low (now rack)) u i) ⌝ }
+    requires { ⌜ (HoldsWaiting (now queue) tally (read low (now rack))) × (tally .draws ≤ drawLimit) ⌝ }
+    ensures { λ r. ⌜ Left (promoted (now (words .entry)) i u (running low (now (rack .entry)) (now (queue .entry)) tally)) (now (rack .exit)) (now (queue .exit)) r ⌝ }
 {
     let k = layout::phi(rack, u, i) as usize;
     let t = lift(rack, queue, u, i, tally);
@@ -142,10 +143,10 @@ fn visit(
     i: usize,
     tally: Tally,
 ) -> Tally
-    requires { ⌜ (Held (now rack)) × (Ordered (read (now rack))) ⌝ }
-    requires { ⌜ (w < read (now rack) .n) × (i ≤ base .top) ⌝ }
-    requires { ⌜ (HoldsWaiting (now queue) tally (read (now rack))) × (tally .draws ≤ drawLimit) ⌝ }
-    ensures { λ r. ⌜ Left (visited base (now (words .entry)) i w (running (now (rack .entry)) (now (queue .entry)) tally)) (now (rack .exit)) (now (queue .exit)) r ⌝ }
+    requires { ⌜ (Held low (now rack)) × (Ordered (read low (now rack))) ⌝ }
+    requires { ⌜ (w < read low (now rack) .n) × (i ≤ base .top) ⌝ }
+    requires { ⌜ (HoldsWaiting (now queue) tally (read low (now rack))) × (tally .draws ≤ drawLimit) ⌝ }
+    ensures { λ r. ⌜ Left (visited base (now (words .entry)) i w (running low (now (rack .entry)) (now (queue .entry)) tally)) (now (rack .exit)) (now (queue .exit)) r ⌝ }
 {
     if i < layout::rank(rack, w) as usize {
         return tally;
@@ -166,10 +167,10 @@ fn scan(
     i: usize,
     tally: Tally,
 ) -> Tally
-    requires { ⌜ (Held (now rack)) × (Ordered (read (now rack))) ⌝ }
-    requires { ⌜ (v < read (now rack) .n) × (i ≤ base .top) × (RowBelow i v (read (now rack))) ⌝ }
-    requires { ⌜ (HoldsWaiting (now queue) tally (read (now rack))) × (tally .draws ≤ takeLimit) ⌝ }
-    ensures { λ r. ⌜ Left (scanFrom base (now (words .entry)) i v (running (now (rack .entry)) (now (queue .entry)) tally)) (now (rack .exit)) (now (queue .exit)) r ⌝ }
+    requires { ⌜ (Held low (now rack)) × (Ordered (read low (now rack))) ⌝ }
+    requires { ⌜ (v < read low (now rack) .n) × (i ≤ base .top) × (RowBelow i v (read low (now rack))) ⌝ }
+    requires { ⌜ (HoldsWaiting (now queue) tally (read low (now rack))) × (tally .draws ≤ takeLimit low) ⌝ }
+    ensures { λ r. ⌜ Left (scanFrom base (now (words .entry)) i v (running low (now (rack .entry)) (now (queue .entry)) tally)) (now (rack .exit)) (now (queue .exit)) r ⌝ }
 {
     let mut t = tally;
     let mut at = layout::walk::first(rack, v);
@@ -203,10 +204,10 @@ fn fall(
     k: usize,
     tally: Tally,
 ) -> Tally
-    requires { ⌜ (Held (now rack)) × (Ordered (read (now rack))) ⌝ }
-    requires { ⌜ Falling (now rack) i v k ⌝ }
-    requires { ⌜ (HoldsWaitingBut v (now queue) tally (read (now rack))) × (Room takeLimit takeLimit tally) ⌝ }
-    ensures { λ r. ⌜ Left (scanFrom base (now (words .entry)) i v (fallen i v (running (now (rack .entry)) (now (queue .entry)) tally))) (now (rack .exit)) (now (queue .exit)) r ⌝ }
+    requires { ⌜ (Held low (now rack)) × (Ordered (read low (now rack))) ⌝ }
+    requires { ⌜ Falling low (now rack) i v k ⌝ }
+    requires { ⌜ (HoldsWaitingBut v (now queue) tally (read low (now rack))) × (Room (takeLimit low) (takeLimit low) tally) ⌝ }
+    ensures { λ r. ⌜ Left (scanFrom base (now (words .entry)) i v (fallen i v (running low (now (rack .entry)) (now (queue .entry)) tally))) (now (rack .exit)) (now (queue .exit)) r ⌝ }
 {
     let low = moves::fall(rack, v, i, k);
     let t = rejoin(queue, v, i, tally.fell());
@@ -225,10 +226,10 @@ fn take(
     i: usize,
     tally: Tally,
 ) -> Tally
-    requires { ⌜ (Held (now rack)) × (Ordered (read (now rack))) ⌝ }
-    requires { ⌜ (v < read (now rack) .n) × (read (now rack) .mate v ≡ v) × (read (now rack) .rank v ≡ suc i) × (i ≤ base .top) ⌝ }
-    requires { ⌜ (HoldsWaiting (now queue) tally (read (now rack))) × (Room takeLimit takeLimit tally) ⌝ }
-    ensures { λ r. ⌜ Left (taken base (now (words .entry)) i v (running (now (rack .entry)) (now (queue .entry)) tally)) (now (rack .exit)) (now (queue .exit)) r ⌝ }
+    requires { ⌜ (Held low (now rack)) × (Ordered (read low (now rack))) ⌝ }
+    requires { ⌜ (v < read low (now rack) .n) × (read low (now rack) .mate v ≡ v) × (read low (now rack) .rank v ≡ suc i) × (i ≤ base .top) ⌝ }
+    requires { ⌜ (HoldsWaiting (now queue) tally (read low (now rack))) × (Room (takeLimit low) (takeLimit low) tally) ⌝ }
+    ensures { λ r. ⌜ Left (taken base (now (words .entry)) i v (running low (now (rack .entry)) (now (queue .entry)) tally)) (now (rack .exit)) (now (queue .exit)) r ⌝ }
 {
     let t = leave(queue, v, tally);
     let k = moves::hand_over(rack, v, i).below;
@@ -241,9 +242,9 @@ fn take(
 // "Among waiting boards of the highest level, the one that has waited at that level longest is taken": of the highest rank in a queue of k
 // vertices, the first.
 fn pick(rack: &[u8], queue: &[u16], k: usize) -> Choice
-    requires { ⌜ Held (now rack) ⌝ }
-    requires { ⌜ (k ≤ length (now queue)) × (All (λ v. v < read (now rack) .n) (front k (now queue))) ⌝ }
-    ensures { λ r. ⌜ foundBy r ≡ picked (suc (base .top)) (queuesIn (read (now (rack .entry)) .rank) (front k (now (queue .entry)))) ⌝ }
+    requires { ⌜ Held low (now rack) ⌝ }
+    requires { ⌜ (k ≤ length (now queue)) × (All (λ v. v < read low (now rack) .n) (front k (now queue))) ⌝ }
+    ensures { λ r. ⌜ foundBy r ≡ picked (suc (base .top)) (queuesIn (read low (now (rack .entry)) .rank) (front k (now (queue .entry)))) ⌝ }
 {
     let mut best = 0;
     let mut at = 0;
@@ -268,9 +269,9 @@ fn pick(rack: &[u8], queue: &[u16], k: usize) -> Choice
 
 // "The settling: while any board waits, take one": never more takings than n times the number of levels from 0 on.
 pub fn settle(rack: &mut [u8], queue: &mut [u16], words: &[u32], tally: Tally) -> Tally
-    requires { ⌜ (Held (now rack)) × (Ordered (read (now rack))) ⌝ }
-    requires { ⌜ (HoldsWaiting (now queue) tally (read (now rack))) × (Room 1 0 tally) ⌝ }
-    ensures { λ r. ⌜ Left (settled base (now (words .entry)) (running (now (rack .entry)) (now (queue .entry)) tally)) (now (rack .exit)) (now (queue .exit)) r ⌝ }
+    requires { ⌜ (Held low (now rack)) × (Ordered (read low (now rack))) ⌝ }
+    requires { ⌜ (HoldsWaiting (now queue) tally (read low (now rack))) × (Room 1 0 tally) ⌝ }
+    ensures { λ r. ⌜ Left (settled base (now (words .entry)) (running low (now (rack .entry)) (now (queue .entry)) tally)) (now (rack .exit)) (now (queue .exit)) r ⌝ }
 {
     let mut left = layout::size(rack) * (layout::top() + 1);
     let mut t = tally;

@@ -1,6 +1,6 @@
 -- How much room the lines of a record need. Assumes nothing.
 use Prim.Native.Nat.{ℕ, _+_, _*_}
-use Rattle.model.specs.Bytes.{most}
+use Rattle.model.specs.Shape.{low}
 
 -- how many bytes a printer is lent at least: no first line, answer's line, pair's line, end line and line of a
 -- run turned back, of figures of 32 bits, is longer
@@ -21,4 +21,4 @@ badRoom = 28
 
 -- the lines after those of the changes: a pair's line for each vertex, and the end line
 abbrev pub endingRoom : ℕ
-endingRoom = pairRoom * most + endRoom
+endingRoom = pairRoom * low .most + endRoom

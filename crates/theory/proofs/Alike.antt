@@ -16,6 +16,7 @@ use Rattle.theory.proofs.Fits.{Fits, fits-edge, lift-fits, handed-near}
 
 -- the same vertices, ranks, mates and edges
 pub record Alike (s s′ : State) : Type 0 where
+  pub kind : s .kind ≡ s′ .kind
   pub size : s .n ≡ s′ .n
   pub rank : s .rank ≡ s′ .rank
   pub mate : s .mate ≡ s′ .mate
@@ -23,6 +24,7 @@ pub record Alike (s s′ : State) : Type 0 where
 
 pub alike-of : (P : Setting) (E : Simple (P .n) (P .edge)) {s s′ : State} → Fits P s → Fits P s′ → marks s ≡ marks s′ → Alike s s′
 alike-of P E F F′ p = record {
+  kind = F .kind ∙ sym (F′ .kind);
   size = F .size ∙ sym (F′ .size);
   rank = λ k. p k .rank;
   mate = λ k. p k .mate;
@@ -71,7 +73,7 @@ pub record Same (r r′ : Run) : Type 0 where
 
 -- a state with other marks
 dress : State → Marks → State
-dress s x = record { n = s .n; rank = x .rank; mate = x .mate; owns = s .owns }
+dress s x = record { kind = s .kind; n = s .n; rank = x .rank; mate = x .mate; owns = s .owns }
 
 pub lift-same : {r r′ : Run} (i u : ℕ) → Same r r′ → Same (lifted i u r) (lifted i u r′)
 unfolding rise part parting free dress

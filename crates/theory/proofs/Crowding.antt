@@ -4,6 +4,7 @@ use mathlib.Core.Bool.{or-comm}
 use mathlib.Core.List.{List}
 use Prim.Native.Nat.{ℕ, _<_}
 use native.Mathlib.Omega.{arith}
+use Rattle.model.specs.Shape.{Shape}
 use Rattle.model.specs.State.{State, base, edge}
 use Rattle.model.specs.Bytes.{read}
 use Rattle.model.specs.Ledger.{Ledger, links}
@@ -17,16 +18,16 @@ turned : (s : State) (v w : ℕ) → edge s v w ≡ edge s w v
 unfolding edge
 turned s v w = or-comm (s .owns v w) (s .owns w v)
 
-pub crowding : (l : Ledger) (bs : List ℕ) → Facts l bs → Crowding l
+pub crowding : {S : Shape} (l : Ledger) (bs : List ℕ) → Facts S l bs → Crowding l
 unfolding neighbours links
-crowding l bs F = record {
+crowding {S} l bs F = record {
   is = mean-is (links l) (l .n) some;
   only = mean-only (links l) (l .n);
   all = ends-twice (l .there) (l .n) (λ v h t. F .no-loop v t) turn;
 }
   where
     some : 0 < l .n
-    some = omega (arith, F .size, sound-says base bs .fact (F .is-sound) .size .0)
+    some = omega (arith, F .size, sound-says base S bs .fact (F .is-sound) .size .0)
 
     turn : (v w : ℕ) → l .there v w ≡ l .there w v
-    turn v w = sym (F .links v w) ∙ turned (read bs) v w ∙ F .links w v
+    turn v w = sym (F .links v w) ∙ turned (read S bs) v w ∙ F .links w v

@@ -10,7 +10,7 @@ use native.Mathlib.Omega.{arith}
 use lib.Dec.{T, eqb, leb}
 use lib.ListN.{getD}
 use Rattle.model.specs.Counting.{sum, count}
-use Rattle.model.specs.State.{Rules, State, base, edge, near, below}
+use Rattle.model.specs.State.{Rules, lowKind, State, base, edge, near, below}
 use Rattle.model.specs.Valid.{Valid}
 use Rattle.model.specs.Moves.{Run, found, ownedBy, handOver, pick}
 use Rattle.model.specs.Change.{Change, number}
@@ -94,7 +94,7 @@ module _ (P : Setting) (E : Simple (P .n) (P .edge)) (i v : ℕ) (s : State) (F 
 
 -- A hand-over of any vertex, in any state with one owner for each edge, no lower than the other end.
 pub parts : (s : State) → Simple (s .n) (edge s) → Owns (edge s) (s .owns) (marks s) → (i v : ℕ) → s .rank v ≡ suc i → Parts i v s (handOver i v s)
-parts s E O i v e = fits-parts (setting base s) E i v s (record { size = refl; owners = O }) e
+parts s E O i v e = fits-parts (setting base s) E i v s (record { kind = refl; size = refl; owners = O }) e
 
 -- Each taking of every accepted change of a valid state.
 pub taken-parts : (R : Rules) → ((j : ℕ) → 1 ≤ R .thr j) → (s : State) → Valid R s → (c : Change) → number (s .n) (edge s) c ≡ 0
@@ -108,7 +108,7 @@ taken-parts R pos s H c z r t S way i v e =
 
 -- ---- A case, computed: 0 stands at level 1 and owns three edges, to 1 at its own level, and to 2 and 3 below. One goes, and two stay.
 unfoldable pub trio : State
-trio = record { n = 4; rank = λ v. getD (2 ∷ 2 ∷ 1 ∷ 0 ∷ []) v 0; mate = λ v. v; owns = λ v w. eqb v 0 && (leb 1 w && leb w 3) }
+trio = record { kind = lowKind; n = 4; rank = λ v. getD (2 ∷ 2 ∷ 1 ∷ 0 ∷ []) v 0; mate = λ v. v; owns = λ v w. eqb v 0 && (leb 1 w && leb w 3) }
 
 pub trio-parts : (count (trio .owns 0) 4 ≡ 3) × (count (handedOn trio (handOver 1 0 trio) 0) 4 ≡ 1) × (below (handOver 1 0 trio) 0 1 ≡ 2)
 unfolding trio count sum handedOn handOver ownedBy below near edge

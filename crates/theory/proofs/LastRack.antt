@@ -7,6 +7,7 @@ use native.Mathlib.Omega.{arith}
 use lib.Dec.{T, leb, ltb, eqb}
 use lib.ListN.{length}
 use Rattle.model.specs.State.{State, base, edge, near, below, phi}
+use Rattle.model.specs.Shape.{Shape}
 use Rattle.model.specs.Bytes.{noMate, rankAt, mateAt, phiAt, write}
 use Rattle.model.specs.Valid.{Valid}
 use Rattle.model.proofs.Tests.{eq?, eqb-yes, eqb-no, leb-yes, leb-no}
@@ -17,29 +18,35 @@ use Rattle.model.proofs.Reading.{read-write}
 use Rattle.theory.specs.Demand.{pairsOf, matedOf, neighboursBelow, Mates, Facts}
 use Rattle.theory.proofs.ChangeStep.{ledger}
 use Rattle.theory.proofs.Matching.{base-one, maximal, twice, cover, ranked-pairs}
-use Rattle.theory.proofs.OnBytes.{write-sized, write-good, pairs-of}
+use Rattle.theory.proofs.OnBytes.{Rack, write-sized, write-good, pairs-of}
 
-module _ (s : State) (ok : Valid base s) where
-  few : s .n ≤ 256
+module _ (s : State) (rack : Rack s) where
+  abbrev of : Shape
+  of = s .kind .shape
+
+  abbrev ok : Valid base s
+  ok = rack .valid
+
+  few : s .n ≤ of .most
   few = size-few ok
 
   -- the entry of a vertex, by its mate
-  entry-free : (v : ℕ) → v < s .n → s .mate v ≡ v → mateAt (write s) v ≡ noMate
-  entry-free v l e = mate-write s v (omega (arith, few)) ∙ mateEntry-free s v e
+  entry-free : (v : ℕ) → v < s .n → s .mate v ≡ v → mateAt of (write s) v ≡ noMate
+  entry-free v l e = mate-write s (rack .good) v (omega (arith, few)) ∙ mateEntry-free s v e
 
-  entry-mate : (v : ℕ) → v < s .n → s .mate v ≢ v → mateAt (write s) v ≡ s .mate v
-  entry-mate v l e = mate-write s v (omega (arith, few)) ∙ mateEntry-mate s v e
+  entry-mate : (v : ℕ) → v < s .n → s .mate v ≢ v → mateAt of (write s) v ≡ s .mate v
+  entry-mate v l e = mate-write s (rack .good) v (omega (arith, few)) ∙ mateEntry-mate s v e
 
-  free-entry : (v : ℕ) → v < s .n → mateAt (write s) v ≡ noMate → s .mate v ≡ v
+  free-entry : (v : ℕ) → v < s .n → mateAt of (write s) v ≡ noMate → s .mate v ≡ v
   free-entry v l e = elim (eq? (s .mate v) v) [
     | inl p ↦ p
-    | inr p ↦ absurd (omega (arith, few, mate-inside ok v p, entry-mate v l p))
+    | inr p ↦ absurd (omega (arith, few, rack .good .named, mate-inside ok v p, entry-mate v l p))
   ]
 
   rank-is : (v : ℕ) → v < s .n → rankAt (write s) v ≡ s .rank v
-  rank-is v l = rank-write s v (omega (arith, few))
+  rank-is v l = rank-write s (rack .good) v (omega (arith, few))
 
-  mates-of : (v w : ℕ) → v < s .n → s .mate v ≢ v → s .mate v ≡ w → Mates (ledger s) (write s) v w
+  mates-of : (v w : ℕ) → v < s .n → s .mate v ≢ v → s .mate v ≡ w → Mates of (ledger s) (write s) v w
   unfolding base
   mates-of v w l d e =
       let m : s .mate v < s .n = mate-inside ok v d in
@@ -61,28 +68,34 @@ module _ (s : State) (ok : Valid base s) where
   unfolding below near neighboursBelow
   below-is v j = count-ext _ _ (s .n) (λ w l. ap (λ (x : ℕ). edge s v w && leb x j) (sym (rank-is w l)))
 
-  phi-below : (v j : ℕ) → v < s .n → j < 4 → rankAt (write s) v ≤ j → phiAt (write s) v j ≡ below s v j
-  phi-below v j l h k = phi-write s v j (omega (arith, few)) h ∙ phi-above s v j (omega (arith, rank-is v l))
+  -- a count
+  phi-at : (v j : ℕ) → v < s .n → j < 4 → phiAt of (write s) v j ≡ phi s v j
+  unfolding base
+  phi-at v j l h =
+      phi-write s (rack .good) v j (omega (arith, few)) (omega (arith, rack .room))
+
+  phi-below : (v j : ℕ) → v < s .n → j < 4 → rankAt (write s) v ≤ j → phiAt of (write s) v j ≡ below s v j
+  phi-below v j l h k = phi-at v j l h ∙ phi-above s v j (omega (arith, rank-is v l))
 
   -- the mated vertices are those at level 0 or more
-  mated-is : (v : ℕ) → v < s .n → not (eqb (mateAt (write s) v) noMate) ≡ ltb 0 (s .rank v)
+  mated-is : (v : ℕ) → v < s .n → not (eqb (mateAt of (write s) v) noMate) ≡ ltb 0 (s .rank v)
   mated-is v l = elim (eq? (s .rank v) 0) [
-    | inl z ↦ ap not (eqb-yes (mateAt (write s) v) noMate (entry-free v l (ok .low-free v z))) ∙ sym (leb-no 1 (s .rank v) (omega arith))
+    | inl z ↦ ap not (eqb-yes (mateAt of (write s) v) noMate (entry-free v l (ok .low-free v z))) ∙ sym (leb-no 1 (s .rank v) (omega arith))
     | inr z ↦
-        ap not (eqb-no (mateAt (write s) v) noMate (λ e. z (ok .free-low v (free-entry v l e)))) ∙ sym (leb-yes 1 (s .rank v) (omega arith))
+        ap not (eqb-no (mateAt of (write s) v) noMate (λ e. z (ok .free-low v (free-entry v l e)))) ∙ sym (leb-yes 1 (s .rank v) (omega arith))
   ]
 
-  twice-mated : matedOf (ledger s) (write s) ≡ 2 * pairsOf (ledger s) (write s)
+  twice-mated : matedOf of (ledger s) (write s) ≡ 2 * pairsOf of (ledger s) (write s)
   unfolding matedOf
-  twice-mated = count-ext _ _ (s .n) mated-is ∙ ranked-pairs base s ok ∙ ap (λ (x : ℕ). 2 * x) (pairs-of s ok)
+  twice-mated = count-ext _ _ (s .n) mated-is ∙ ranked-pairs base s ok ∙ ap (λ (x : ℕ). 2 * x) (pairs-of s rack)
 
-  pub last-facts : Facts (ledger s) (write s)
+  pub last-facts : Facts of (ledger s) (write s)
   unfolding base
   last-facts = record {
-    is-sized = write-sized s;
-    is-sound = write-good s ok;
-    size = size-write s;
-    links = λ v w. ap (λ (x : State). edge x v w) (read-write base s ok);
+    is-sized = write-sized s rack;
+    is-sound = write-good s rack;
+    size = size-write s (rack .good);
+    links = λ v w. ap (λ (x : State). edge x v w) (read-write base s (rack .good) ok);
     no-loop = edge-loop ok;
     inside = edge-inside ok;
     maximal = λ v w t a b.
@@ -90,17 +103,16 @@ module _ (s : State) (ok : Valid base s) where
         maximal base base-one s ok v w t (free-entry v (i .0) a) (free-entry w (i .1) b);
     mates = λ v l d.
         let ne : s .mate v ≢ v = λ e. d (entry-free v l e) in
-        mates-of v (mateAt (write s) v) l ne (sym (entry-mate v l ne));
+        mates-of v (mateAt of (write s) v) l ne (sym (entry-mate v l ne));
     free-low = λ v l e. rank-is v l ∙ ok .free-low v (free-entry v l e);
     low-free = λ v l e. entry-free v l (ok .low-free v (sym (rank-is v l) ∙ e));
     counts = λ v j l h k. phi-below v j l h k ∙ below-is v j;
     counts-low = λ v j l h k.
-        let p : phiAt (write s) v j ≡ phi s v j = phi-write s v j (omega (arith, few)) h in
-        omega (arith, p, ok .phi-low v j (omega arith), phi-below v j l h k, below-is v j);
+        omega (arith, phi-at v j l h, ok .phi-low v j (omega arith), phi-below v j l h k, below-is v j);
     counts-zero = λ v j l h k.
-        phi-write s v j (omega (arith, few)) h ∙ phi-zero s v j (omega (arith, rank-is v l));
-    twice = λ m d. subst (λ (x : ℕ). length m ≤ 2 * x) (pairs-of s ok) (twice base base-one s ok m d);
-    cover = λ c t. subst (λ (x : ℕ). x ≤ length c) (pairs-of s ok) (cover base s ok c t);
+        phi-at v j l h ∙ phi-zero s v j (omega (arith, rank-is v l));
+    twice = λ m d. subst (λ (x : ℕ). length m ≤ 2 * x) (pairs-of s rack) (twice base base-one s ok m d);
+    cover = λ c t. subst (λ (x : ℕ). x ≤ length c) (pairs-of s rack) (cover base s ok c t);
     mated-twice = twice-mated;
-    mated-cover = λ c t. omega (arith, twice-mated, pairs-of s ok, cover base s ok c t);
+    mated-cover = λ c t. omega (arith, twice-mated, pairs-of s rack, cover base s ok c t);
   }

@@ -9,12 +9,13 @@ use Prim.Native.Nat.{ℕ, suc, _≤_, _<_}
 use lib.Dec.{T, leb, leb→le, le→leb}
 use Rattle.model.specs.Lists.{Mem}
 use Rattle.model.specs.Counting.{count}
-use Rattle.model.specs.State.{Rules, State, edge as edges-of}
+use Rattle.model.specs.State.{Rules, Kind, State, edge as edges-of}
 use Rattle.model.proofs.Tests.{and-intro, and-left, and-right}
 pub use Rattle.theory.specs.Waiting.{Marks, marks}
 
--- what does not change while a state settles: the number of vertices, the top level, the thresholds and the edges
+-- what does not change while a state settles: the kind of rack, the number of vertices, the top level, the thresholds and the edges
 pub record Setting : Type 0 where
+  pub kind : Kind
   pub n : ℕ
   pub top : ℕ
   pub thr : ℕ → ℕ
@@ -22,14 +23,14 @@ pub record Setting : Type 0 where
 
 -- the setting of a state under the rules, and the rules of a setting
 abbrev pub setting : Rules → State → Setting
-setting R s = record { n = s .n; top = R .top; thr = R .thr; edge = edges-of s }
+setting R s = record { kind = s .kind; n = s .n; top = R .top; thr = R .thr; edge = edges-of s }
 
 abbrev pub rules : Setting → Rules
 rules P = record { top = P .top; thr = P .thr }
 
 -- the same setting with other edges
 abbrev pub rejoin : Setting → (ℕ → ℕ → Bool) → Setting
-rejoin P there = record { n = P .n; top = P .top; thr = P .thr; edge = there }
+rejoin P there = record { kind = P .kind; n = P .n; top = P .top; thr = P .thr; edge = there }
 
 -- the edges join two different vertices below n, both ways
 pub record Simple (n : ℕ) (there : ℕ → ℕ → Bool) : Type 0 where

@@ -132,7 +132,7 @@ module _ (P : Setting) (E : Simple (P .n) (P .edge)) (pos : (j : ℕ) → 1 ≤ 
   drop-same there K a b s s′ F F′ p D I l lb ne e =
       settle-same (s .rank a)
       (record {
-        marked = ap (λ (x : Marks). marks (part a (record { n = s .n; rank = x .rank; mate = x .mate; owns = s .owns }))) p;
+        marked = ap (λ (x : Marks). marks (part a (record { kind = s .kind; n = s .n; rank = x .rank; mate = x .mate; owns = s .owns }))) p;
         queues = ap (λ (x : Marks). join b (x .rank b) (join a (x .rank a) (λ i. []))) p;
         news = refl;
         draws = refl;

@@ -9,6 +9,7 @@ use lib.Dec.{T, leb, ltb, eqb}
 use lib.ListN.{length}
 use Rattle.model.specs.Lists.{All, Mem, Distinct}
 use Rattle.model.specs.Counting.{sum, count}
+use Rattle.model.specs.Shape.{Shape}
 use Rattle.model.specs.State.{base, edge}
 use Rattle.model.specs.Bytes.{noMate, sizeAt, rankAt, mateAt, phiAt, read, write}
 use Rattle.model.specs.Sound.{sound}
@@ -18,21 +19,21 @@ use Rattle.model.specs.Calls.{sized, ChangedBytes, changeBytes}
 use Rattle.model.specs.Ledger.{Ledger, ledgerNumber, entered, enteredAll}
 
 -- the rack after a list of calls, each on the rack that the one before it left
-unfoldable pub lastRack : List ℕ → List Change → List ℕ
-lastRack bs [] = bs
-lastRack bs (c ∷ cs) = lastRack (changeBytes base bs c .rack) cs
+unfoldable pub lastRack : Shape → List ℕ → List Change → List ℕ
+lastRack S bs [] = bs
+lastRack S bs (c ∷ cs) = lastRack S (changeBytes base S bs c .rack) cs
 
 -- "The pairs are the book's links whose ends name each other as mates": whether v-w is one, v the lower end
-abbrev pub isPair : Ledger → List ℕ → ℕ → ℕ → Bool
-isPair l bs v w = ltb v w && (l .there v w && (eqb (mateAt bs v) w && eqb (mateAt bs w) v))
+abbrev pub isPair : Shape → Ledger → List ℕ → ℕ → ℕ → Bool
+isPair S l bs v w = ltb v w && (l .there v w && (eqb (mateAt S bs v) w && eqb (mateAt S bs w) v))
 
 -- the number of pairs
-unfoldable pub pairsOf : Ledger → List ℕ → ℕ
-pairsOf l bs = sum (λ v. count (isPair l bs v) (l .n)) (l .n)
+unfoldable pub pairsOf : Shape → Ledger → List ℕ → ℕ
+pairsOf S l bs = sum (λ v. count (isPair S l bs v) (l .n)) (l .n)
 
 -- the number of mated vertices
-unfoldable pub matedOf : Ledger → List ℕ → ℕ
-matedOf l bs = count (λ v. not (eqb (mateAt bs v) noMate)) (l .n)
+unfoldable pub matedOf : Shape → Ledger → List ℕ → ℕ
+matedOf S l bs = count (λ v. not (eqb (mateAt S bs v) noMate)) (l .n)
 
 -- the number of v's neighbours whose level is below j, by the ledger's edges and the rack's levels
 unfoldable pub neighboursBelow : Ledger → List ℕ → ℕ → ℕ → ℕ
@@ -53,22 +54,22 @@ abbrev pub Covers : (ℕ → ℕ → Bool) → List ℕ → Type 0
 Covers there c = (v w : ℕ) → T (there v w) → Mem v c ⊎ Mem w c
 
 -- w is named by v as its mate: they name each other, are linked, and stand on one level from 0 to 3
-pub record Mates (l : Ledger) (bs : List ℕ) (v w : ℕ) : Type 0 where
-  pub back : mateAt bs w ≡ v
+pub record Mates (S : Shape) (l : Ledger) (bs : List ℕ) (v w : ℕ) : Type 0 where
+  pub back : mateAt S bs w ≡ v
   pub linked : T (l .there v w)
   pub level : rankAt bs w ≡ rankAt bs v
   pub at-least-0 : 1 ≤ rankAt bs v
   pub at-most-3 : rankAt bs v ≤ 4
 
 -- What one call of the list does, from the rack bs, where the ledger is l: d is what it answers and leaves.
-pub record Call (l : Ledger) (bs : List ℕ) (c : Change) (d : ChangedBytes) : Type 0 where
+pub record Call (S : Shape) (l : Ledger) (bs : List ℕ) (c : Change) (d : ChangedBytes) : Type 0 where
   -- its number is the ledger's
   pub number : d .answer .number ≡ ledgerNumber l c
   -- refused, it answers the number and zeros, and the rack keeps every byte
   pub refused-keeps : ledgerNumber l c ≢ 0 → (d .answer ≡ refused (ledgerNumber l c)) × (d .rack ≡ bs)
   -- accepted, it leaves the rack of the moves, and reports the pairs of the ledger's links then
-  pub accepted-moves : ledgerNumber l c ≡ 0 → d .rack ≡ write (accepted base (read bs) c .state)
-  pub accepted-pairs : ledgerNumber l c ≡ 0 → d .answer .pairs ≡ pairsOf (entered l c) (d .rack)
+  pub accepted-moves : ledgerNumber l c ≡ 0 → d .rack ≡ write (accepted base (read S bs) c .state)
+  pub accepted-pairs : ledgerNumber l c ≡ 0 → d .answer .pairs ≡ pairsOf S (entered l c) (d .rack)
   -- no vertex is in two of its new pairs, or twice in one
   pub once : Distinct (vertices (d .news))
   -- its draws are as many as its new pairs, and at most n div 2
@@ -78,41 +79,41 @@ pub record Call (l : Ledger) (bs : List ℕ) (c : Change) (d : ChangedBytes) : T
   pub falls-few : d .answer .falls ≤ l .n * 4
 
 -- the calls of a list, one after the other
-unfoldable pub Calls : Ledger → List ℕ → List Change → Type 0
-Calls l bs [] = Unit
-Calls l bs (c ∷ cs) = Call l bs c (changeBytes base bs c) × Calls (entered l c) (changeBytes base bs c .rack) cs
+unfoldable pub Calls : Shape → Ledger → List ℕ → List Change → Type 0
+Calls S l bs [] = Unit
+Calls S l bs (c ∷ cs) = Call S l bs c (changeBytes base S bs c) × Calls S (entered l c) (changeBytes base S bs c .rack) cs
 
 -- What holds of the last rack bs, with the links of the ledger l.
-pub record Facts (l : Ledger) (bs : List ℕ) : Type 0 where
+pub record Facts (S : Shape) (l : Ledger) (bs : List ℕ) : Type 0 where
   -- the rack is sound
-  pub is-sized : T (sized bs)
-  pub is-sound : T (sound base bs)
+  pub is-sized : T (sized S bs)
+  pub is-sound : T (sound base S bs)
   -- it has as many vertices as the ledger
   pub size : sizeAt bs ≡ l .n
   -- its rows give the ledger's links, which join two different vertices below n
-  pub links : (v w : ℕ) → edge (read bs) v w ≡ l .there v w
+  pub links : (v w : ℕ) → edge (read S bs) v w ≡ l .there v w
   pub no-loop : (v : ℕ) → T (l .there v v) → ⊥
   pub inside : (v w : ℕ) → T (l .there v w) → (v < l .n) × (w < l .n)
   -- no link has both ends free
-  pub maximal : (v w : ℕ) → T (l .there v w) → mateAt bs v ≡ noMate → mateAt bs w ≡ noMate → ⊥
+  pub maximal : (v w : ℕ) → T (l .there v w) → mateAt S bs v ≡ noMate → mateAt S bs w ≡ noMate → ⊥
   -- mates name each other and are linked on one level
-  pub mates : (v : ℕ) → v < l .n → mateAt bs v ≢ noMate → Mates l bs v (mateAt bs v)
+  pub mates : (v : ℕ) → v < l .n → mateAt S bs v ≢ noMate → Mates S l bs v (mateAt S bs v)
   -- a vertex is free exactly at level -1
-  pub free-low : (v : ℕ) → v < l .n → mateAt bs v ≡ noMate → rankAt bs v ≡ 0
-  pub low-free : (v : ℕ) → v < l .n → rankAt bs v ≡ 0 → mateAt bs v ≡ noMate
+  pub free-low : (v : ℕ) → v < l .n → mateAt S bs v ≡ noMate → rankAt bs v ≡ 0
+  pub low-free : (v : ℕ) → v < l .n → rankAt bs v ≡ 0 → mateAt S bs v ≡ noMate
   -- each count at a level above the vertex's is the number of neighbours below, and less than 4^j; the others are 0
-  pub counts : (v j : ℕ) → v < l .n → j < 4 → rankAt bs v ≤ j → phiAt bs v j ≡ neighboursBelow l bs v j
+  pub counts : (v j : ℕ) → v < l .n → j < 4 → rankAt bs v ≤ j → phiAt S bs v j ≡ neighboursBelow l bs v j
   pub counts-low : (v j : ℕ) → v < l .n → j < 4 → rankAt bs v ≤ j → neighboursBelow l bs v j < 4 ^ j
-  pub counts-zero : (v j : ℕ) → v < l .n → j < 4 → j < rankAt bs v → phiAt bs v j ≡ 0
+  pub counts-zero : (v j : ℕ) → v < l .n → j < 4 → j < rankAt bs v → phiAt S bs v j ≡ 0
   -- any edges of which no two share a vertex are at most twice as many as the pairs
-  pub twice : (m : List Ends) → Disjoint (l .there) m → length m ≤ 2 * pairsOf l bs
+  pub twice : (m : List Ends) → Disjoint (l .there) m → length m ≤ 2 * pairsOf S l bs
   -- any vertices that touch every edge are at least as many as the pairs
-  pub cover : (c : List ℕ) → Covers (l .there) c → pairsOf l bs ≤ length c
+  pub cover : (c : List ℕ) → Covers (l .there) c → pairsOf S l bs ≤ length c
   -- the mated vertices, which touch every edge by `maximal`, are twice as many as the pairs, and so at most twice as many as any that do
-  pub mated-twice : matedOf l bs ≡ 2 * pairsOf l bs
-  pub mated-cover : (c : List ℕ) → Covers (l .there) c → matedOf l bs ≤ 2 * length c
+  pub mated-twice : matedOf S l bs ≡ 2 * pairsOf S l bs
+  pub mated-cover : (c : List ℕ) → Covers (l .there) c → matedOf S l bs ≤ 2 * length c
 
 -- Demand 3: "one statement about a whole list of changes, the empty list too".
-pub record Demand (l : Ledger) (bs : List ℕ) (cs : List Change) : Type 0 where
-  pub calls : Calls l bs cs
-  pub last : Facts (enteredAll l cs) (lastRack bs cs)
+pub record Demand (S : Shape) (l : Ledger) (bs : List ℕ) (cs : List Change) : Type 0 where
+  pub calls : Calls S l bs cs
+  pub last : Facts S (enteredAll l cs) (lastRack S bs cs)

@@ -9,8 +9,8 @@ use native.Mathlib.Nat.{mul-suc}
 use lib.Dec.{T, ltb}
 use lib.ListN.{length, length-append}
 use Rattle.model.specs.Counting.{listed}
-use Rattle.model.specs.State.{Rules, State, edges, pairs, empty}
-use Rattle.model.specs.Bytes.{most}
+use Rattle.model.specs.Shape.{low}
+use Rattle.model.specs.State.{Rules, State, lowKind, edges, pairs, empty}
 use Rattle.model.specs.Text.{bytes, largest}
 use Rattle.model.specs.Change.{Change, change}
 use Rattle.model.specs.Trace.{Trace, traceText, rackLine, changeLine}
@@ -18,7 +18,7 @@ use Rattle.model.specs.Record.{answerLine, pairLine, Mean, mean, endText, endLi
 use Rattle.model.specs.Run.{longest, spaceLength}
 use Rattle.model.proofs.Counting.{count-bound}
 use Rattle.model.proofs.Lists.{listed-length, listed-all}
-use Rattle.model.proofs.Limits.{edges-few}
+use Rattle.model.proofs.Limits.{edges-bound}
 use Rattle.model.proofs.Mean.{mean-most}
 use Rattle.text.specs.Rooms.{answerRoom, pairRoom, endRoom, endingRoom}
 use Rattle.text.proofs.Lengths.{three-most}
@@ -37,7 +37,7 @@ space-enough t short = omega (arith, simp length-append at short, texts-least ch
 
 -- what is printed of a state fits 32 bits
 pub record Small (s : State) : Type 0 where
-  pub few : s .n ≤ 256
+  pub few : s .n ≤ low .most
   pub mates : (v : ℕ) → v < s .n → s .mate v ≤ largest
   pub ranks : (v : ℕ) → v < s .n → s .rank v ≤ largest
 
@@ -50,7 +50,7 @@ pair-most s v h b =
       three-most (bytes "(pair (") v (bytes " ") (s .mate v) (bytes ") (level ") (s .rank v - 1) (bytes "))\n") (omega (arith, h .few)) (h .mates v b) r,
     )
 
-pub pairs-most : (s : State) → Small s → length (pairLines s) ≤ pairRoom * most
+pub pairs-most : (s : State) → Small s → length (pairLines s) ≤ pairRoom * low .most
 unfolding pairLines
 pairs-most s h =
     let p : ℕ → Bool = λ v. ltb v (s .mate v) in
@@ -68,7 +68,7 @@ end-most s h =
     let m : Mean = mean (edges s) (s .n) in
     let p : pairs s ≤ largest = omega (arith, h .few, count-bound (λ (v : ℕ). ltb v (s .mate v)) (s .n)) in
     let q = mean-most (edges s) (s .n) in
-    let e = edges-few s (h .few) in
+    let e = edges-bound s 255 (h .few) in
     omega (
       arith,
       three-most (bytes "(end (pairs ") (pairs s) (bytes ") (mean ") (m .whole) (bytes " ") (m .rest) (bytes "))\n")
@@ -100,12 +100,12 @@ module _ (R : Rules) (Good : State → Type 0) (bounded : Bounded R Good) where
         mul-suc answerRoom (length cs),
       )
 
-  pub record-fits : (t : Trace) → Good (empty (t .n)) → length (traceText t) ≤ longest → length (recordText R t) ≤ spaceLength
+  pub record-fits : (t : Trace) → Good (empty lowKind (t .n)) → length (traceText t) ≤ longest → length (recordText R t) ≤ spaceLength
   unfolding recordText
   record-fits t g short =
       omega (
         arith,
         space-enough t short,
-        length-append (rackLine (t .n)) (changesText R (empty (t .n)) (t .changes)),
-        changes-most (empty (t .n)) (t .changes) g,
+        length-append (rackLine (t .n)) (changesText R (empty lowKind (t .n)) (t .changes)),
+        changes-most (empty lowKind (t .n)) (t .changes) g,
       )

@@ -1,5 +1,5 @@
 -- Every record of a trace of 1 to 256 vertices fits its space. Assumes nothing.
-use mathlib.Core.Path.{refl, ap}
+use mathlib.Core.Path.{_≡_, refl, ap, _∙_}
 use mathlib.Core.Logic.{inl, inr}
 use mathlib.Core.Bool.{Bool, true, false, _&&_, _||_, not}
 use Prim.Native.Nat.{ℕ, zero, suc, _/_, _^_, _≤_}
@@ -7,7 +7,8 @@ use native.Mathlib.Nat.{pow-suc}
 use native.Mathlib.Omega.{arith}
 use lib.Dec.{eqb, ltb}
 use lib.ListN.{length}
-use Rattle.model.specs.State.{State, base, edge, pairs}
+use Rattle.model.specs.Shape.{Shape, low}
+use Rattle.model.specs.State.{Kind, State, lowKind, base, edge, pairs, empty}
 use Rattle.model.specs.Valid.{Valid}
 use Rattle.model.specs.Trace.{Trace, traceText}
 use Rattle.model.specs.Change.{Change, Answer, number, change, refused}
@@ -40,37 +41,55 @@ number-few n there c =
     (pick (eqb (c .code) 2 && not (there (c .a) (c .b))) 11 _ (omega arith)
     (pick (ltb (length (c .words)) (n / 2)) 12 0 (omega arith) (omega arith))))) (omega arith)) (omega arith)
 
-pub valid-small : (s : State) → Valid base s → Small s
+-- a valid state of document 01's rack
+pub record LowValid (s : State) : Type 0 where
+  pub shape : s .kind .shape ≡ low
+  pub valid : Valid base s
+
+low-few : (s : State) → LowValid s → s .n ≤ low .most
+low-few s ok = omega (arith, ok .valid .few, ap (λ (S : Shape). S .most) (ok .shape))
+
+pub valid-small : (s : State) → LowValid s → Small s
 unfolding base
 valid-small s ok = record {
-  few = ok .few;
-  mates = λ v b. elim (eq? (s .mate v) v) [ inl e ↦ omega (arith, ok .few) | inr d ↦ omega (arith, ok .few, mate-inside ok v d) ];
-  ranks = λ v b. omega (arith, ok .ranks v);
+  few = low-few s ok;
+  mates = λ v b. elim (eq? (s .mate v) v) [
+    | inl e ↦ omega (arith, low-few s ok)
+    | inr d ↦ omega (arith, low-few s ok, mate-inside (ok .valid) v d)
+  ];
+  ranks = λ v b. omega (arith, ok .valid .ranks v);
 }
 
 step : (s : State) (c : Change) → Valid base s → steps.Step base s c (change base s c)
 unfolding base
 step s c ok = steps.change-step base refl (λ j. pow-pos j) s ok c
 
-pub valid-figures : (s : State) (c : Change) → Valid base s → Figures (change base s c .answer)
+-- a change leaves one again
+pub low-keeps : (s : State) (c : Change) → LowValid s → LowValid (change base s c .state)
+low-keeps s c ok =
+    let w = step s c (ok .valid) in
+    record { shape = ap (λ (K : Kind). K .shape) (w .kind) ∙ ok .shape; valid = w .valid }
+
+pub valid-figures : (s : State) (c : Change) → LowValid s → Figures (change base s c .answer)
 unfolding base refused pairs
 valid-figures s c ok =
     let d = change base s c in
-    let w = step s c ok in
+    let w = step s c (ok .valid) in
+    let few : s .n ≤ low .most = low-few s ok in
     record {
       number-fits = omega (arith, w .number, number-few (s .n) (edge s) c);
-      draws-fit = omega (arith, w .draws-half, ok .few);
-      falls-fit = omega (arith, w .falls-few, ok .few);
+      draws-fit = omega (arith, w .draws-half, few);
+      falls-fit = omega (arith, w .falls-few, few);
       pairs-fit = elim (eq? (d .answer .number) 0) [
-        | inl e ↦ omega (arith, w .pairs-held e, count-bound (λ v. ltb v (d .state .mate v)) (d .state .n), w .valid .few)
+        | inl e ↦ omega (arith, w .pairs-held e, count-bound (λ v. ltb v (d .state .mate v)) (d .state .n), w .size, few)
         | inr e ↦ omega (arith, ap (λ (x : Answer). x .pairs) (w .refused-keeps e .1))
       ];
     }
 
-pub bounded : Bounded base (Valid base)
-bounded = record { keeps = λ s c ok. step s c ok .valid; figures = valid-figures; small = valid-small }
+pub bounded : Bounded base LowValid
+bounded = record { keeps = low-keeps; figures = valid-figures; small = valid-small }
 
-pub record-fits-base : (t : Trace) → 1 ≤ t .n → t .n ≤ 256 → length (traceText t) ≤ longest → length (recordText base t) ≤ spaceLength
+pub record-fits-base : (t : Trace) → 1 ≤ t .n → t .n ≤ low .most → length (traceText t) ≤ longest → length (recordText base t) ≤ spaceLength
 record-fits-base t p q short =
-    record-fits base (Valid base) bounded t
-    (unfold base in empty-valid base (λ j. pow-pos j) (t .n) p q) short
+    record-fits base LowValid bounded t
+    (unfold base empty in record { shape = refl; valid = empty-valid base lowKind (λ j. pow-pos j) (t .n) p q }) short

@@ -3,6 +3,8 @@ use Prim.Native.Nat.{ℕ, _-_, _≤_, _<_}
 use native.Mathlib.Omega.{arith}
 use borrow.Author.Count.{below-more}
 use borrow.Author.Tests.{not-true, not-false}
+use Rattle.model.specs.Shape.{low}
+use Rattle.model.specs.State.{base}
 use Rattle.layout.proofs.Said.{said, unsaid, says-yes, says-no}
 use Rattle.audit.specs.Parts.{Count}
 use borrow.Author.Needs.{needs}
@@ -10,7 +12,7 @@ use Rattle.audit.proofs.counts.Statement.{statement}
 use Rattle.audit.proofs.counts.Tie as tie
 
 abbrev Inv-loop : tie.InvT-loop
-Inv-loop rack tally n v₀ v = (v ≤ n) × ((w : ℕ) → w < v → (j : ℕ) → j < 4 → Count rack tally w j)
+Inv-loop rack tally n v₀ v = (v ≤ n) × ((w : ℕ) → w < v → (j : ℕ) → j ≤ base .top → Count low rack tally w j)
 
 abbrev μ-loop : tie.MeasureT-loop
 μ-loop rack tally n v₀ v = n - v

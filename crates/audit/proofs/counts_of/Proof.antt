@@ -4,20 +4,22 @@ use mathlib.Core.Path.{_≡_, sym}
 use Prim.Native.Nat.{ℕ, _+_, _-_, _*_, _≤_, _<_}
 use native.Mathlib.Omega.{arith}
 use borrow.Author.Count.{below-more}
+use Rattle.model.specs.Shape.{low}
 use Rattle.model.specs.State.{base}
 use Rattle.layout.proofs.Said.{says-yes, says-no}
 use Rattle.audit.specs.Tally.{upTo}
 use Rattle.audit.specs.Parts.{Count}
 use Rattle.audit.proofs.Phi.{upTo-none, upTo-suc, upTo-more}
+use Rattle.model.proofs.Shapes.{low-full}
 use borrow.Author.Needs.{needs}
 use Rattle.audit.proofs.counts_of.Statement.{statement}
 use Rattle.audit.proofs.counts_of.Tie as tie
 
 abbrev Inv-loop : tie.InvT-loop
-Inv-loop rack tally v top total₀ j₀ total j = (j ≤ 4) × ((total < 256) × ((total ≡ upTo tally v j) × ((i : ℕ) → i < j → Count rack tally v i)))
+Inv-loop rack tally v top total₀ j₀ total j = (j ≤ low .levels) × ((total < 256) × ((total ≡ upTo low tally v j) × ((i : ℕ) → i < j → Count low rack tally v i)))
 
 abbrev μ-loop : tie.MeasureT-loop
-μ-loop rack tally v top total₀ j₀ total j = 4 - j
+μ-loop rack tally v top total₀ j₀ total j = low .levels - j
 
 top-requires : tie.Need-top-requires Inv-loop μ-loop
 top-requires c κs = search needs
@@ -25,14 +27,17 @@ top-requires c κs = search needs
 loop-holds : tie.Need-loop-holds Inv-loop μ-loop
 loop-holds c =
     let a = c .before .before .before .args in
-    (omega arith, (omega arith, (sym (upTo-none (a .tally .now) (a .v)), λ i h. absurd (omega arith))))
+    (omega arith, (omega arith, (sym (upTo-none low (a .tally .now) (a .v)), λ i h. absurd (omega arith))))
 
 mul-total : tie.Need-mul-total Inv-loop μ-loop
 mul-total c = search needs
 
-small : (c : tie.In-loop Inv-loop μ-loop) → c .before .loop .j < 4
-unfolding base
-small c = omega (arith, c .loop-test .taken, c .before .before .top .ensures)
+-- j is a level, and has its entry
+level : (c : tie.In-loop Inv-loop μ-loop) → c .before .loop .j ≤ base .top
+level c = omega (arith, c .loop-test .taken, c .before .before .top .ensures)
+
+small : (c : tie.In-loop Inv-loop μ-loop) → c .before .loop .j < low .levels
+small c = omega (arith, level c, low-full)
 
 add-total : tie.Need-add-total Inv-loop μ-loop
 add-total c = record { fits = omega (arith, small c) }
@@ -46,12 +51,12 @@ shared-slice-read-total c = omega (arith, small (c .before))
 cast-total : tie.Need-cast-total Inv-loop μ-loop
 cast-total c =
     let a = c .before .before .before .before .before .before .args in
-    omega (arith, c .shared-slice-known3 .given (4 * a .v + c .before .before .loop .j))
+    omega (arith, c .shared-slice-known3 .given (low .levels * a .v + c .before .before .loop .j))
 
 add-total-2 : tie.Need-add-total-2 Inv-loop μ-loop
 add-total-2 c =
     let a = c .before .before .before .before .before .before .args in
-    omega (arith, c .shared-slice-known3 .given (4 * a .v + c .before .before .loop .j), c .before .before .loop .inv .1 .0)
+    omega (arith, c .shared-slice-known3 .given (low .levels * a .v + c .before .before .loop .j), c .before .before .loop .inv .1 .0)
 
 phi-requires : tie.Need-phi-requires Inv-loop μ-loop
 phi-requires c κs =
@@ -66,16 +71,15 @@ returns c =
     let t = c .before .before .before in
     let a = t .before .before .before .before .before .args in
     let l = t .before .loop in
-    says-no (λ g. c .if1 .taken (omega (arith, c .before .phi .ensures, g (l .j) (small t) .right, upTo-suc (a .tally .now) (a .v) (l .j), l .inv .1 .1 .0)))
+    says-no (λ g. c .if1 .taken (omega (arith, c .before .phi .ensures, g (l .j) (level t) .right, upTo-suc low (a .tally .now) (a .v) (l .j), l .inv .1 .1 .0)))
 
 threshold-requires : tie.Need-threshold-requires Inv-loop μ-loop
-unfolding base
-threshold-requires c κs = omega (arith, small (c .before .before .before))
+threshold-requires c κs = level (c .before .before .before)
 
 returns-2 : tie.Need-returns-2 Inv-loop μ-loop
 returns-2 c =
     let t = c .before .before .before .before .before in
-    says-no (λ g. omega (arith, c .if2 .taken, c .before .threshold .ensures, c .before .before .before .phi .ensures, g (t .before .loop .j) (small t) .low))
+    says-no (λ g. omega (arith, c .if2 .taken, c .before .threshold .ensures, c .before .before .before .phi .ensures, g (t .before .loop .j) (level t) .low))
 
 add-j : tie.Need-add-j Inv-loop μ-loop
 add-j c = record { fits = omega (arith, small (c .before .before .before .before .before)) }
@@ -89,12 +93,12 @@ loop-again c =
     let a = t .before .before .before .before .before .args in
     let l = t .before .loop in
     let phi = c .before .before .before .phi in
-    let sum = upTo-suc (a .tally .now) (a .v) (l .j) in (
+    let sum = upTo-suc low (a .tally .now) (a .v) (l .j) in (
       omega (arith, small t),
       (
         omega (arith, c .before .before .if1 .left, phi .ok),
         (
-          omega (arith, upTo-more (a .tally .now) (a .v) (l .j), l .inv .1 .1 .0),
+          omega (arith, upTo-more low (a .tally .now) (a .v) (l .j), l .inv .1 .1 .0),
           below-more _ _ (l .inv .1 .1 .1) (record {
             right = omega (arith, phi .ensures, c .before .before .if1 .left, sum, l .inv .1 .1 .0);
             low = omega (arith, phi .ensures, c .if2 .left, c .before .threshold .ensures);
@@ -104,7 +108,6 @@ loop-again c =
     )
 
 returns-3 : tie.Need-returns-3 Inv-loop μ-loop
-unfolding base
 returns-3 c = says-yes (λ i h. c .before .loop .inv .1 .1 .1 i (omega (arith, c .loop-test .left, c .before .before .top .ensures)))
 
 pub counts-of-spec : {M : Type 1} → statement M

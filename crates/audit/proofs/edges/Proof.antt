@@ -1,13 +1,16 @@
 -- `audit::edges` meets its contract: what the tally holds after all rows is what the counts are held to. Assumes nothing.
 use mathlib.Core.Path.{_≡_, refl, sym, _∙_}
-use Prim.Native.Nat.{ℕ, suc, _<_}
+use Prim.Native.Nat.{ℕ, suc, _≤_, _<_}
 use native.Mathlib.Omega.{arith}
 use borrow.Author.Tests.{not-true, not-false}
 use Rattle.model.specs.Counting.{sum}
+use Rattle.model.specs.Shape.{low}
+use Rattle.model.specs.State.{base}
 use Rattle.model.proofs.Tests.{true-T}
 use Rattle.layout.proofs.Said.{said, unsaid, says-no, says-by}
 use Rattle.audit.specs.Tally.{tallied, upTo, Holds}
 use Rattle.audit.proofs.Phi.{upTo-holds, zeros-hold}
+use Rattle.model.proofs.Shapes.{low-full}
 use Rattle.audit.proofs.edges.Statement.{statement}
 use Rattle.audit.proofs.edges.Tie as tie
 
@@ -17,7 +20,7 @@ slice-aggregate-all c = refl
 all-requires : tie.Need-all-requires
 all-requires c κs =
     let s = c .before .before in
-    (s .pre .0, (s .pre .1, zeros-hold (s .args .rack .now) _ refl))
+    (s .pre .0, (s .pre .1, zeros-hold low (s .args .rack .now) _ refl))
 
 returns : tie.Need-returns
 returns c = says-no (λ g. unsaid (c .before .before .all .ensures .0) (not-true _ (c .if1 .taken)) (g .rows))
@@ -25,7 +28,7 @@ returns c = says-no (λ g. unsaid (c .before .before .all .ensures .0) (not-true
 -- the tally after all rows
 held : (c : tie.Else1) →
     let s = c .before .before .before .before .before in
-    Holds (c .before .before .all .last .1 .0) (tallied (s .args .rack .now) (s .args .n))
+    Holds low (c .before .before .all .last .1 .0) (tallied low (s .args .rack .now) (s .args .n))
 held c = c .before .before .all .ensures .1 (true-T {b = c .before .before .all .result} (not-false _ (c .if1 .left)))
 
 slice-aggregate-counts : tie.Need-slice-aggregate-counts
@@ -41,9 +44,9 @@ returns-2 c =
     let e = c .before .before in
     let s = e .before .before .before .before .before in
     let t = e .before .before .all .last .1 .0 in
-    let f = tallied (s .args .rack .now) (s .args .n) in
-    let sums : (v : ℕ) → v < s .args .n → (j : ℕ) → j < 4 → upTo t v (suc j) ≡ sum (f v) (suc j) =
-    λ v h j k. upTo-holds t f v (suc j) (held e) (omega (arith, s .pre .1)) (omega arith) in
+    let f = tallied low (s .args .rack .now) (s .args .n) in
+    let sums : (v : ℕ) → v < s .args .n → (j : ℕ) → j ≤ base .top → upTo low t v (suc j) ≡ sum (f v) (suc j) =
+    λ v h j k. upTo-holds low t f v (suc j) (held e) (omega (arith, s .pre .1)) (omega (arith, low-full)) in
     says-by
     (λ g. record {
       rows = said (e .before .before .all .ensures .0) (not-false _ (e .if1 .left));

@@ -1,6 +1,7 @@
 -- `audit::mate_of` meets its contract. Assumes nothing.
 use mathlib.Core.Path.{sym, _∙_, subst}
 use Prim.Native.Nat.{ℕ}
+use Rattle.model.specs.Shape.{low}
 use Rattle.model.proofs.Facts.{Mated, eqb-says}
 use Rattle.layout.proofs.Said.{says-no, says-by}
 use borrow.Author.Needs.{needs}
@@ -39,11 +40,11 @@ returns-3 c =
     let m = t .before .mate .ensures in
     says-by
     (λ g. record {
-      mated = λ _. subst (λ (w : ℕ). Mated bs v w) m g;
+      mated = λ _. subst (λ (w : ℕ). Mated low bs v w) m g;
       free = λ e. absurd (c .before .before .if1 .left (m ∙ e));
       low = λ e. absurd (c .before .if2 .left (t .rank .ensures ∙ e));
     })
-    (λ g. subst (λ (w : ℕ). Mated bs v w) (sym m) (g .mated (λ e. c .before .before .if1 .left (m ∙ e))))
+    (λ g. subst (λ (w : ℕ). Mated low bs v w) (sym m) (g .mated (λ e. c .before .before .if1 .left (m ∙ e))))
     (c .mated .ensures)
 
 pub mate-of-spec : {M : Type 1} → statement M

@@ -3,6 +3,7 @@ use mathlib.Core.Path.{sym, _∙_, subst}
 use mathlib.Core.Bool.{_||_}
 use native.Mathlib.Omega.{arith}
 use lib.Dec.{T}
+use Rattle.model.specs.Shape.{low}
 use Rattle.model.specs.Bytes.{ownsAt}
 use Rattle.model.proofs.Facts.{self-says}
 use Rattle.layout.proofs.Said.{says-no, says-by, says-is}
@@ -15,7 +16,7 @@ returns : tie.Need-returns
 returns c =
     let s = c .before .before in
     let bs = s .args .rack .now in
-    says-no (λ g. omega (arith, linked-inside bs (s .args .v) (s .args .w) (g .linked), c .if1 .taken, s .pre .1 .0))
+    says-no (λ g. omega (arith, linked-inside low bs (s .args .v) (s .args .w) (g .linked), c .if1 .taken, s .pre .1 .0))
 
 mate-requires : tie.Need-mate-requires
 mate-requires c κs = search needs
@@ -46,7 +47,7 @@ returns-4 c =
     let bs = s .args .rack .now in
     let v = s .args .v in
     let w = s .args .w in
-    let e = linked-reads bs v w (omega (arith, s .pre .1 .1 .1, s .pre .1 .0)) (omega (arith, m .before .before .if1 .left, s .pre .1 .0)) in
+    let e = linked-reads low bs v w (omega (arith, s .pre .1 .1 .1, s .pre .1 .0)) (omega (arith, m .before .before .if1 .left, s .pre .1 .0)) in
     says-by
     (λ t. record {
       back = sym (m .before .mate .ensures) ∙ m .if2 .left;
@@ -54,7 +55,7 @@ returns-4 c =
       level = sym (r .before .before .rank .ensures) ∙ r .if3 .left ∙ r .before .rank2 .ensures;
     })
     (λ g. subst T e (g .linked))
-    (says-is (c .linked .ensures) (self-says (ownsAt bs v w || ownsAt bs w v)))
+    (says-is (c .linked .ensures) (self-says (ownsAt low bs v w || ownsAt low bs w v)))
 
 pub mated-spec : {M : Type 1} → statement M
 mated-spec =

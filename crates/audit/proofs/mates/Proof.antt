@@ -3,6 +3,7 @@ use Prim.Native.Nat.{ℕ, _-_, _≤_, _<_}
 use native.Mathlib.Omega.{arith}
 use borrow.Author.Count.{below-more}
 use borrow.Author.Tests.{not-true, not-false}
+use Rattle.model.specs.Shape.{low}
 use Rattle.layout.proofs.Said.{said, unsaid, says-yes, says-no}
 use Rattle.audit.specs.Parts.{Mate}
 use borrow.Author.Needs.{needs}
@@ -10,7 +11,7 @@ use Rattle.audit.proofs.mates.Statement.{statement}
 use Rattle.audit.proofs.mates.Tie as tie
 
 abbrev Inv-loop : tie.InvT-loop
-Inv-loop rack n v₀ v = (v ≤ n) × ((w : ℕ) → w < v → Mate rack w)
+Inv-loop rack n v₀ v = (v ≤ n) × ((w : ℕ) → w < v → Mate low rack w)
 
 abbrev μ-loop : tie.MeasureT-loop
 μ-loop rack n v₀ v = n - v

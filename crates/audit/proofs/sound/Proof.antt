@@ -6,6 +6,8 @@ use Prim.Native.Nat.{ℕ}
 use native.Mathlib.Omega.{arith}
 use borrow.Author.Tests.{not-true, not-false}
 use Rattle.model.specs.Counting.{sum}
+use Rattle.model.specs.Shape.{low}
+use Rattle.model.proofs.Shapes.{low-good, low-full}
 use Rattle.layout.specs.Rows.{degreeAt}
 use Rattle.layout.proofs.Said.{said, unsaid, says-no, says-by}
 use Rattle.audit.specs.Parts.{Edges}
@@ -20,12 +22,12 @@ size-requires c κs = search needs
 returns : tie.Need-returns
 returns c =
     let bs = c .before .before .before .args .rack .now in
-    answer false bs (says-no (λ f. omega (arith, f .size .0, c .if1 .taken, c .before .size .ensures)))
+    answer low false bs (says-no (λ f. omega (arith, f .size .0, c .if1 .taken, c .before .size .ensures)))
 
 returns-2 : tie.Need-returns-2
 returns-2 c =
     let bs = c .before .before .before .before .args .rack .now in
-    answer false bs (says-no (λ f. omega (arith, f .size .1, c .if2 .taken, c .before .before .size .ensures)))
+    answer low false bs (says-no (λ f. omega (arith, f .size .1, c .if2 .taken, c .before .before .size .ensures)))
 
 spare-zero-requires : tie.Need-spare-zero-requires
 spare-zero-requires c κs = search needs
@@ -33,7 +35,7 @@ spare-zero-requires c κs = search needs
 returns-3 : tie.Need-returns-3
 returns-3 c =
     let bs = c .before .before .before .before .before .before .args .rack .now in
-    answer false bs (says-no (λ f. unsaid (c .before .spare-zero .ensures) (not-true _ (c .if3 .taken)) (f .spare)))
+    answer low false bs (says-no (λ f. unsaid (c .before .spare-zero .ensures) (not-true _ (c .if3 .taken)) (f .spare)))
 
 unused-from-requires : tie.Need-unused-from-requires
 unused-from-requires c κs = search needs
@@ -42,7 +44,7 @@ returns-4 : tie.Need-returns-4
 returns-4 c =
     let n = c .before .before .before .before .before .before in
     let bs = n .before .before .args .rack .now in
-    answer false bs (says-no (λ f. unsaid (c .before .unused-from .ensures) (not-true _ (c .if4 .taken)) (λ v h l. f .unused v h (omega (arith, n .size .ensures)))))
+    answer low false bs (says-no (λ f. unsaid (c .before .unused-from .ensures) (not-true _ (c .if4 .taken)) (λ v h l. f .unused v h (omega (arith, n .size .ensures)))))
 
 edges-requires : tie.Need-edges-requires
 edges-requires c κs = search needs
@@ -51,8 +53,8 @@ returns-5 : tie.Need-returns-5
 returns-5 c =
     let n = c .before .before .before .before .before .before .before .before in
     let bs = n .before .before .args .rack .now in
-    answer false bs
-    (says-no (λ f. unsaid (c .before .edges .ensures) (not-true _ (c .if5 .taken)) (subst (λ (k : ℕ). Edges bs k) (sym (n .size .ensures)) (facts-edges bs f))))
+    answer low false bs
+    (says-no (λ f. unsaid (c .before .edges .ensures) (not-true _ (c .if5 .taken)) (subst (λ (k : ℕ). Edges low bs k) (sym (n .size .ensures)) (facts-edges low low-good low-full bs f))))
 
 degrees-requires : tie.Need-degrees-requires
 degrees-requires c κs = search needs
@@ -67,9 +69,9 @@ returns-6 : tie.Need-returns-6
 returns-6 c =
     let n = c .before .before .before .before .before .before .before .before .before .before .before in
     let bs = n .before .before .args .rack .now in
-    answer false bs
+    answer low false bs
     (says-no (λ f. c .if6 .taken
-    (c .before .before .degrees .ensures ∙ ap (sum (degreeAt bs)) (n .size .ensures) ∙ facts-degrees bs f ∙ sym (c .before .edges2 .ensures))))
+    (c .before .before .degrees .ensures ∙ ap (sum (degreeAt low bs)) (n .size .ensures) ∙ facts-degrees low low-good low-full bs f ∙ sym (c .before .edges2 .ensures))))
 
 mates-requires : tie.Need-mates-requires
 mates-requires c κs = search needs
@@ -83,17 +85,17 @@ returns-7 c =
     let n = spare .before .before .before .before in
     let bs = n .before .before .args .rack .now in
     let e = n .size .ensures in
-    answer (c .mates .result) bs
+    answer low (c .mates .result) bs
     (says-by
-    (λ m. whole bs
+    (λ m. whole low low-good low-full bs
     (omega (arith, e, spare .before .before .before .if1 .left))
     (omega (arith, e, spare .before .before .if2 .left))
     (said (spare .before .spare-zero .ensures) (not-false _ (spare .if3 .left)))
     (λ v h l. said (unused .before .unused-from .ensures) (not-false _ (unused .if4 .left)) v h (omega (arith, e)))
-    (subst (λ (k : ℕ). Edges bs k) e (said (edges .before .edges .ensures) (not-false _ (edges .if5 .left))))
-    (sym (total .before .edges2 .ensures) ∙ sym (total .if6 .left) ∙ total .before .before .degrees .ensures ∙ ap (sum (degreeAt bs)) e)
+    (subst (λ (k : ℕ). Edges low bs k) e (said (edges .before .edges .ensures) (not-false _ (edges .if5 .left))))
+    (sym (total .before .edges2 .ensures) ∙ sym (total .if6 .left) ∙ total .before .before .degrees .ensures ∙ ap (sum (degreeAt low bs)) e)
     (λ v h. m v (omega (arith, e))))
-    (λ f v h. facts-mates bs f v (omega (arith, e)))
+    (λ f v h. facts-mates low low-good low-full bs f v (omega (arith, e)))
     (c .mates .ensures))
 
 pub sound-spec : {M : Type 1} → statement M

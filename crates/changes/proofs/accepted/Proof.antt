@@ -1,4 +1,5 @@
 -- `changes::accepted` meets its contract. Assumes nothing.
+use Rattle.model.specs.Shape.{low}
 use Rattle.model.specs.Bytes.{read}
 use Rattle.model.specs.Change.{Change}
 use Rattle.changes.specs.Sounded.{brought, Acceptable}
@@ -17,7 +18,7 @@ given d = brought (d .args .code) (d .args .a) (d .args .b) (d .args .words .now
 -- with its ends in order
 ordered : (c : tie.After-upper) →
     let a = begin c .args in
-    Acceptable (read (a .rack .now)) (a .code) (c .before .lower .result) (c .upper .result)
+    Acceptable (read low (a .rack .now)) (a .code) (c .before .lower .result) (c .upper .result)
 ordered c = in-order _ (given (begin c)) (c .before .lower .ensures) (c .upper .ensures) (begin c .pre .1)
 
 lower-requires : tie.Need-lower-requires

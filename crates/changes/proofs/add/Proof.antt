@@ -1,6 +1,7 @@
 -- `changes::add` meets its contract. Assumes nothing.
 use mathlib.Core.Path.{_≡_, sym, ap, _∙_}
 use Prim.Native.Nat.{suc}
+use Rattle.model.specs.Shape.{low}
 use Rattle.model.specs.State.{base}
 use Rattle.model.specs.Bytes.{read}
 use Rattle.model.specs.Moves.{found}
@@ -24,14 +25,14 @@ searched c = c .before .before
 -- the edge is put in
 added : (c : tie.After-add-edge) →
     let a = begin c .args in
-    Added (a .rack .now) (a .a) (a .b) (c .add-edge .last .0)
+    Added low (a .rack .now) (a .a) (a .b) (c .add-edge .last .0)
 added c = record { from = begin c .pre .0; ends = begin c .pre .1; rack = c .add-edge .ensures }
 
 -- what was found is the definition's
 reached : (c : tie.After-i) →
     let e = edged (searched c) in
     let a = begin e .args in
-    riser base (a .a) (a .b) (suc (base .top)) (read (e .add-edge .last .0)) ≡ found (c .i .given .0 .0) (c .i .given .0 .1 .0)
+    riser base (a .a) (a .b) (suc (base .top)) (read low (e .add-edge .last .0)) ≡ found (c .i .given .0 .0) (c .i .given .0 .1 .0)
 reached c = sym (searched c .riser .ensures) ∙ ap reachedBy (c .i .given .1)
 
 add-edge-requires : tie.Need-add-edge-requires

@@ -2,6 +2,7 @@
 use mathlib.Core.Path.{_≡_, refl, sym, _∙_}
 use mathlib.Core.Logic.{_≢_}
 use native.Mathlib.Omega.{arith}
+use Rattle.model.specs.Shape.{low}
 use Rattle.model.specs.State.{edge}
 use Rattle.model.specs.Bytes.{read}
 use Rattle.model.specs.Change.{Change, number}
@@ -35,7 +36,7 @@ returns c =
     )
 
 -- no number fits
-fits : (c : tie.Else1) → let s = read (begin (c .before) .args .rack .now) in number (s .n) (edge s) (given (begin (c .before))) ≡ 0
+fits : (c : tie.Else1) → let s = read low (begin (c .before) .args .rack .now) in number (s .n) (edge s) (given (begin (c .before))) ≡ 0
 fits c = sym (c .before .number .ensures) ∙ c .if1 .left
 
 -- the moves of the change follow

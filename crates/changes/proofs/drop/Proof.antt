@@ -1,5 +1,6 @@
 -- `changes::drop` meets its contract. Assumes nothing.
 use native.Mathlib.Omega.{arith}
+use Rattle.model.specs.Shape.{low}
 use Rattle.moves.proofs.Held.{held-sized}
 use Rattle.changes.proofs.Wholes.{sounded-held, Dropped, dropped-begun, dropped-inside, dropped-small, dropped-mates, dropped-loose, dropped-pair}
 use borrow.Author.Needs.{needs}
@@ -16,7 +17,7 @@ edged c = c .before .before .before .before
 -- the edge is taken out
 dropped : (c : tie.After-drop-edge) →
     let a = begin c .args in
-    Dropped (a .rack .now) (a .a) (a .b) (c .drop-edge .last .0)
+    Dropped low (a .rack .now) (a .a) (a .b) (c .drop-edge .last .0)
 dropped c = record { from = begin c .pre .0; ends = begin c .pre .1; rack = c .drop-edge .ensures }
 
 drop-edge-requires : tie.Need-drop-edge-requires

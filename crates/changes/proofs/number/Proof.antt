@@ -3,6 +3,7 @@
 use mathlib.Core.Path.{_≡_, sym, ap, ap₂, _∙_}
 use mathlib.Core.Logic.{_≢_}
 use Prim.Native.Nat.{ℕ, _<_}
+use Rattle.model.specs.Shape.{low}
 use Rattle.model.specs.State.{State, edge}
 use Rattle.model.specs.Bytes.{read}
 use Rattle.model.specs.Change.{Change}
@@ -28,7 +29,7 @@ looked c = c .before .before
 
 -- the state, and the change that is given
 abbrev state : tie.Start → State
-state d = read (d .args .rack .now)
+state d = read low (d .args .rack .now)
 
 abbrev given : tie.Start → Change
 given d = brought (d .args .code) (d .args .a) (d .args .b) (d .args .words .now)

@@ -4,6 +4,7 @@ use mathlib.Core.List.{List}
 use Prim.Native.Nat.{ℕ, _*_}
 use native.Mathlib.Omega.{arith}
 use lib.Dec.{ltb}
+use Rattle.model.specs.Shape.{low}
 use Rattle.model.specs.State.{base, pairs}
 use Rattle.model.specs.Bytes.{rankAt, read}
 use Rattle.model.proofs.Counting.{count-bound}
@@ -23,8 +24,8 @@ returns : tie.Need-returns
 returns c =
     let bs : List ℕ = c .before .before .args .rack .now in
     let ok = c .before .before .pre in
-    let e : c .ranked .result ≡ 2 * pairs (read bs) =
-    c .ranked .ensures ∙ held-ranked (sounded-held bs ok) ∙ ranked-pairs base (read bs) (ok .valid) in
+    let e : c .ranked .result ≡ 2 * pairs (read low bs) =
+    c .ranked .ensures ∙ held-ranked (sounded-held bs ok) ∙ ranked-pairs base (read low bs) (ok .valid) in
     omega (arith, e)
 
 pub pairs-spec : {M : Type 1} → statement M

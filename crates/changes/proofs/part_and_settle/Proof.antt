@@ -2,6 +2,7 @@
 use mathlib.Core.Path.{_∙_}
 use native.Mathlib.Omega.{arith}
 use borrow.Author.Needs.{needs}
+use Rattle.model.specs.Shape.{low}
 use Rattle.model.specs.Bytes.{read}
 use Rattle.model.specs.Change.{startParted}
 use Rattle.changes.proofs.Chains.{Onward, parted-next, one-waits, settled-on}
@@ -63,7 +64,7 @@ slice-aggregate-settle c = search needs
 next : (c : tie.After-part) →
     let w = parted c in
     let a = begin (lent (joined w .before)) .args in
-    Onward (startParted (a .a) (a .b) (read (a .rack .now))) (c .part .last .0) (w .join2 .last .0) (w .join2 .result)
+    Onward low (startParted (a .a) (a .b) (read low (a .rack .now))) (c .part .last .0) (w .join2 .last .0) (w .join2 .result)
 next c =
     let w = parted c in
     let j = joined w in

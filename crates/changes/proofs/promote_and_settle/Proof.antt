@@ -1,6 +1,7 @@
 -- `changes::promote_and_settle` meets its contract. Assumes nothing.
 use native.Mathlib.Omega.{arith}
 use borrow.Author.Needs.{needs}
+use Rattle.model.specs.Shape.{low}
 use Rattle.model.specs.Bytes.{read}
 use Rattle.model.specs.Moves.{promote}
 use Rattle.model.specs.Change.{start}
@@ -40,7 +41,7 @@ slice-aggregate-settle c = search needs
 next : (c : tie.After-promote) →
     let a = begin (lent (c .before)) .args in
     let p = c .promote in
-    Onward (promote (a .words .now) (a .i) (a .u) (start (read (a .rack .now)))) (p .last .0) (p .last .1 .0) (p .result)
+    Onward low (promote (a .words .now) (a .i) (a .u) (start (read low (a .rack .now)))) (p .last .0) (p .last .1 .0) (p .result)
 next c =
     let p = lent (c .before) in
     let d = begin p in

@@ -8,13 +8,14 @@ use native.Mathlib.Omega.{arith}
 use borrow.Author.Needs.{needs}
 use lib.Dec.{T}
 use lib.ListN.{length}
+use Rattle.model.specs.Shape.{low}
 use Rattle.model.specs.State.{State}
 use Rattle.model.specs.Bytes.{image, read, write}
 use Rattle.model.specs.Change.{addEdge as edgeAdded}
-use Rattle.model.proofs.Fields.{write-length}
-use Rattle.layout.specs.Setters.{own as owned}
+use Rattle.layout.specs.Setters.{Sized, own as owned}
 use Rattle.moves.proofs.Held.{held-sized, held-rank}
 use Rattle.edges.specs.Steps.{edgeCounted, Countable}
+use Rattle.model.proofs.Shapes.{low-full}
 use Rattle.edges.proofs.Shifted.{Higher, higher-of}
 use Rattle.edges.proofs.Stages.{turned, turned-sized}
 use Rattle.edges.proofs.EdgeSteps.{step-written}
@@ -24,23 +25,24 @@ use Rattle.edges.proofs.add_edge.Tie as tie
 
 -- the state that comes in, and the state that is to be written
 abbrev from : tie.Start → State
-from d = read (d .args .rack .now)
+from d = read low (d .args .rack .now)
 
 abbrev to : tie.Start → State
 to d = edgeAdded (d .args .a) (d .args .b) (from d)
 
-addable : (d : tie.Start) → Addable (d .args .a) (d .args .b) (from d)
+addable : (d : tie.Start) → Addable low (d .args .a) (d .args .b) (from d)
 addable d = record {
   proper = d .pre .0 .proper;
+  full = low-full;
   apart = d .pre .1 .2;
   inside = (d .pre .1 .0, d .pre .1 .1);
   absent = λ h. subst T (d .pre .1 .3) h;
 }
 
-a-low : (d : tie.Start) → d .args .a < 256
+a-low : (d : tie.Start) → d .args .a < low .most
 a-low d = a-small (d .args .a) (d .args .b) (from d) (addable d)
 
-b-low : (d : tie.Start) → d .args .b < 256
+b-low : (d : tie.Start) → d .args .b < low .most
 b-low d = b-small (d .args .a) (d .args .b) (from d) (addable d)
 
 -- the places, each from the one before it
@@ -66,11 +68,14 @@ turned-now c =
     let x = c .before .before .before .rank .ensures ∙ held-rank h a (a-low d) in
     let y = c .before .rank2 .ensures ∙ held-rank h b (b-low d) in
     ⊎-elim
-    (λ w. w .5 ∙ w .2 .ensures ∙ ap (λ (bs : List ℕ). owned bs a b) (h .written)
+    (λ w. w .5 ∙ w .2 .ensures ∙ ap (λ (bs : List ℕ). owned low bs a b) (h .written)
     ∙ own-high a b (from d) (addable d) (omega (arith, w .0 .taken)))
-    (λ w. w .5 ∙ w .2 .ensures ∙ ap (λ (bs : List ℕ). owned bs b a) (h .written)
+    (λ w. w .5 ∙ w .2 .ensures ∙ ap (λ (bs : List ℕ). owned low bs b a) (h .written)
     ∙ own-low a b (from d) (addable d) (omega (arith, w .0 .left)))
     (c .if1 .came)
+
+turned-long : (c : tie.Joined1) → Sized low (c .if1 .rack)
+turned-long c = let d = rank2-start (c .before) in ap length (turned-now c) ∙ turned-sized (from d) (to d) (d .pre .0 .proper)
 
 higher-is : (c : tie.After-higher) → let d = higher-start c in Higher (d .args .a) (d .args .b) (c .higher .result) (from d)
 higher-is c =
@@ -87,7 +92,7 @@ written-now c =
     let a = d .args .a in
     let b = d .args .b in
     let j = e .higher .result in
-    c .before .before .count-edge .ensures ∙ ap (λ (bs : List ℕ). edgeCounted true bs a b j) (turned-now (higher-join e))
+    c .before .before .count-edge .ensures ∙ ap (λ (bs : List ℕ). edgeCounted low true bs a b j) (turned-now (higher-join e))
     ∙ step-written a b j true (from d) (to d) (add-step a b (from d) (addable d) j (higher-is e))
 
 rank-requires : tie.Need-rank-requires
@@ -111,15 +116,16 @@ count-edge-requires c κs =
     let a = d .args .a in
     let b = d .args .b in
     let j = c .higher .result in
-    let now = turned-now (higher-join c) in (
-      ap length now ∙ turned-sized (from d) (to d),
-      subst (λ (bs : List ℕ). Countable true bs a b j) (sym now)
+    let r = higher-join c in (
+      turned-long r,
+      subst (λ (bs : List ℕ). Countable low true bs a b j) (sym (turned-now r))
           (add-countable a b (from d) (addable d) j (higher-is c)),
     )
 
 same-length : tie.Need-same-length
 same-length c =
-    let d = higher-start (end-higher c) in ap length (written-now c) ∙ write-length (to d) ∙ sym (held-sized (d .pre .0))
+    let e = end-higher c in
+    c .before .before .count-edge .kept .0 ∙ turned-long (higher-join e) ∙ sym (held-sized (higher-start e .pre .0))
 
 returns : tie.Need-returns
 returns c = written-now c

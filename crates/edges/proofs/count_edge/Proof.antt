@@ -4,10 +4,11 @@ use mathlib.Core.List.{List}
 use Prim.Native.Nat.{ℕ, suc, _+_, _-_}
 use native.Mathlib.Omega.{arith}
 use borrow.Author.Needs.{needs}
+use Rattle.model.specs.Shape.{low}
 use Rattle.model.specs.State.{base}
 use Rattle.model.specs.Bytes.{edgesAt, phiAt}
 use Rattle.layout.specs.Setters.{setEdges}
-use Rattle.moves.specs.Counts.{step, CanStep, recounted}
+use Rattle.moves.specs.Counts.{step, CanStep, largestCount, largestEdges, recounted}
 use Rattle.edges.specs.Steps.{recountedFrom, endsCounted, edgeCounted}
 use Rattle.edges.proofs.count_edge.Statement.{statement}
 use Rattle.edges.proofs.count_edge.Tie as tie
@@ -28,18 +29,18 @@ levels c = omega (arith, c .top .ensures)
 
 -- what each step leaves
 first-now : (c : tie.After-step-counts)
-    → let a = first-start c .args in c .step-counts .last .0 ≡ recountedFrom (a .more) (a .rack .now) (a .a) (a .j)
+    → let a = first-start c .args in c .step-counts .last .0 ≡ recountedFrom low (a .more) (a .rack .now) (a .a) (a .j)
 first-now c =
     let a = first-start c .args in
-    c .step-counts .ensures ∙ ap (recounted (step (a .more)) (a .rack .now) (a .a) (a .j)) (levels (c .before .before))
+    c .step-counts .ensures ∙ ap (recounted low (step (a .more)) (a .rack .now) (a .a) (a .j)) (levels (c .before .before))
 
 second-now : (c : tie.After-step-counts2)
-    → let a = first-start (second-first c) .args in c .step-counts2 .last .0 ≡ endsCounted (a .more) (a .rack .now) (a .a) (a .b) (a .j)
+    → let a = first-start (second-first c) .args in c .step-counts2 .last .0 ≡ endsCounted low (a .more) (a .rack .now) (a .a) (a .b) (a .j)
 second-now c =
     let f = second-first c in
     let a = first-start f .args in
-    c .step-counts2 .ensures ∙ ap (recounted (step (a .more)) (f .step-counts .last .0) (a .b) (a .j)) (levels (f .before .before))
-    ∙ ap (λ (bs : List ℕ). recountedFrom (a .more) bs (a .b) (a .j)) (first-now f)
+    c .step-counts2 .ensures ∙ ap (recounted low (step (a .more)) (f .step-counts .last .0) (a .b) (a .j)) (levels (f .before .before))
+    ∙ ap (λ (bs : List ℕ). recountedFrom low (a .more) bs (a .b) (a .j)) (first-now f)
 
 top-requires : tie.Need-top-requires
 top-requires c κs = search needs
@@ -68,7 +69,7 @@ step-counts-requires-2 c κs =
       omega (arith, f .step-counts .kept .0, p .0),
       (
         (p .1 .b-in, omega (arith, p .1 .level)),
-        λ x l h. subst (λ (bs : List ℕ). CanStep (a .more) 255 (phiAt bs (a .b) x)) (sym (first-now f)) (p .1 .of-b x l (omega (arith, p .1 .level))),
+        λ x l h. subst (λ (bs : List ℕ). CanStep (a .more) (largestCount low) (phiAt low bs (a .b) x)) (sym (first-now f)) (p .1 .of-b x l (omega (arith, p .1 .level))),
       ),
     )
 
@@ -79,7 +80,7 @@ stepped-requires : tie.Need-stepped-requires
 stepped-requires c κs =
     let s = edges-second c in
     let d = first-start (second-first s) in
-    subst (CanStep (d .args .more) 65535) (sym (c .edges .ensures ∙ ap edgesAt (second-now s))) (d .pre .1 .of-edges)
+    subst (CanStep (d .args .more) (largestEdges low)) (sym (c .edges .ensures ∙ ap (edgesAt low) (second-now s))) (d .pre .1 .of-edges)
 
 set-edges-requires : tie.Need-set-edges-requires
 set-edges-requires c κs = search needs
@@ -94,8 +95,8 @@ returns c =
     let s = edges-second e in
     let more = first-start (second-first s) .args .more in
     c .before .before .set-edges .ensures
-    ∙ ap (setEdges (s .step-counts2 .last .0)) (c .before .before .before .before .stepped .ensures ∙ ap (step more) (e .edges .ensures))
-    ∙ ap (λ (bs : List ℕ). setEdges bs (step more (edgesAt bs))) (second-now s)
+    ∙ ap (setEdges low (s .step-counts2 .last .0)) (c .before .before .before .before .stepped .ensures ∙ ap (step more) (e .edges .ensures))
+    ∙ ap (λ (bs : List ℕ). setEdges low bs (step more (edgesAt low bs))) (second-now s)
 
 pub count-edge-spec : {M : Type 1} → statement M
 count-edge-spec =

@@ -5,12 +5,14 @@ use mathlib.Core.List.{List}
 use Prim.Native.Nat.{ℕ, _<_}
 use borrow.Author.Needs.{needs}
 use lib.ListN.{length}
+use Rattle.model.specs.Shape.{low}
 use Rattle.model.specs.State.{State}
 use Rattle.model.specs.Bytes.{image, read}
 use Rattle.model.proofs.Tests.{true-T}
 use Rattle.layout.specs.Setters.{disown as disowned}
 use Rattle.moves.proofs.Held.{held-sized}
 use Rattle.edges.specs.Steps.{edgeCounted, Countable}
+use Rattle.model.proofs.Shapes.{low-full}
 use Rattle.edges.proofs.Changed.{dropEdge}
 use Rattle.edges.proofs.Shifted.{Higher, higher-of}
 use Rattle.edges.proofs.Stages.{turned, turned-sized}
@@ -21,23 +23,24 @@ use Rattle.edges.proofs.drop_edge.Tie as tie
 
 -- the state that comes in, and the state that is to be written
 abbrev from : tie.Start → State
-from d = read (d .args .rack .now)
+from d = read low (d .args .rack .now)
 
 abbrev to : tie.Start → State
 to d = dropEdge (d .args .a) (d .args .b) (from d)
 
-droppable : (d : tie.Start) → Droppable (d .args .a) (d .args .b) (from d)
+droppable : (d : tie.Start) → Droppable low (d .args .a) (d .args .b) (from d)
 droppable d = record {
   proper = d .pre .0 .proper;
+  full = low-full;
   apart = d .pre .1 .2;
   inside = (d .pre .1 .0, d .pre .1 .1);
   there = true-T (d .pre .1 .3);
 }
 
-a-low : (d : tie.Start) → d .args .a < 256
+a-low : (d : tie.Start) → d .args .a < low .most
 a-low d = a-small (d .args .a) (d .args .b) (from d) (droppable d)
 
-b-low : (d : tie.Start) → d .args .b < 256
+b-low : (d : tie.Start) → d .args .b < low .most
 b-low d = b-small (d .args .a) (d .args .b) (from d) (droppable d)
 
 -- the places, each from the one before it
@@ -58,7 +61,7 @@ turned-now c =
     let a = d .args .a in
     let b = d .args .b in
     c .disown2 .ensures
-    ∙ ap (λ (bs : List ℕ). disowned bs b a) (c .before .before .before .before .disown .ensures ∙ ap (λ (bs : List ℕ). disowned bs a b) (d .pre .0 .written))
+    ∙ ap (λ (bs : List ℕ). disowned low bs b a) (c .before .before .before .before .disown .ensures ∙ ap (λ (bs : List ℕ). disowned low bs a b) (d .pre .0 .written))
     ∙ disown-both a b (from d) (droppable d)
 
 higher-is : (c : tie.After-higher) → let d = higher-start c in Higher (d .args .a) (d .args .b) (c .higher .result) (from d)
@@ -92,8 +95,8 @@ count-edge-requires c κs =
     let a = d .args .a in
     let b = d .args .b in
     let j = h .higher .result in (
-      ap length (turned-now e) ∙ turned-sized (from d) (to d),
-      subst (λ (bs : List ℕ). Countable false bs a b j) (sym (turned-now e))
+      ap length (turned-now e) ∙ turned-sized (from d) (to d) (d .pre .0 .proper),
+      subst (λ (bs : List ℕ). Countable low false bs a b j) (sym (turned-now e))
           (drop-countable a b (from d) (droppable d) j (higher-is h)),
     )
 
@@ -108,7 +111,7 @@ returns c =
     let a = d .args .a in
     let b = d .args .b in
     let j = h .higher .result in
-    c .before .before .count-edge .ensures ∙ ap (λ (bs : List ℕ). edgeCounted false bs a b j) (turned-now e)
+    c .before .before .count-edge .ensures ∙ ap (λ (bs : List ℕ). edgeCounted low false bs a b j) (turned-now e)
     ∙ step-written a b j false (from d) (to d) (drop-step a b (from d) (droppable d) j (higher-is h))
 
 pub drop-edge-spec : {M : Type 1} → statement M

@@ -3,6 +3,7 @@ use mathlib.Core.Path.{_≡_, sym, ap, _∙_}
 use mathlib.Core.List.{List}
 use Prim.Native.Nat.{ℕ, suc, _+_, _-_, _≤_, _<_}
 use native.Mathlib.Omega.{arith}
+use Rattle.model.specs.Shape.{low}
 use Rattle.model.specs.State.{base, phi}
 use Rattle.model.specs.Bytes.{phiAt, read}
 use Rattle.model.specs.Change.{riser as riserOf}
@@ -14,10 +15,10 @@ use Rattle.edges.proofs.riser.Statement.{statement}
 use Rattle.edges.proofs.riser.Tie as tie
 
 abbrev Inv-loop : tie.InvT-loop
-Inv-loop rack a b low j₀ j = (j ≤ suc (base .top)) × (riserOf base a b j (read rack) ≡ riserOf base a b (suc (base .top)) (read rack))
+Inv-loop rack a b least j₀ j = (j ≤ suc (base .top)) × (riserOf base a b j (read low rack) ≡ riserOf base a b (suc (base .top)) (read low rack))
 
 abbrev μ-loop : tie.MeasureT-loop
-μ-loop rack a b low j₀ j = j
+μ-loop rack a b least j₀ j = j
 
 -- at the loop's head: the rack, and the ends
 abbrev rack-of : tie.At-loop Inv-loop μ-loop → List ℕ
@@ -29,23 +30,23 @@ a-of c = c .before .before .before .before .before .before .args .a
 abbrev b-of : tie.At-loop Inv-loop μ-loop → ℕ
 b-of c = c .before .before .before .before .before .before .args .b
 
-held : (c : tie.At-loop Inv-loop μ-loop) → Held (rack-of c)
+held : (c : tie.At-loop Inv-loop μ-loop) → Held low (rack-of c)
 held c = c .before .before .before .before .before .before .pre .0
 
-a-small : (c : tie.At-loop Inv-loop μ-loop) → a-of c < 256
+a-small : (c : tie.At-loop Inv-loop μ-loop) → a-of c < low .most
 a-small c = held-small (held c) (a-of c) (c .before .before .before .before .before .before .pre .1 .0)
 
-b-small : (c : tie.At-loop Inv-loop μ-loop) → b-of c < 256
+b-small : (c : tie.At-loop Inv-loop μ-loop) → b-of c < low .most
 b-small c = held-small (held c) (b-of c) (c .before .before .before .before .before .before .pre .1 .1)
 
-a-rank : (c : tie.At-loop Inv-loop μ-loop) → c .before .before .before .before .rank .result ≡ read (rack-of c) .rank (a-of c)
+a-rank : (c : tie.At-loop Inv-loop μ-loop) → c .before .before .before .before .rank .result ≡ read low (rack-of c) .rank (a-of c)
 a-rank c = c .before .before .before .before .rank .ensures ∙ held-rank (held c) (a-of c) (a-small c)
 
-b-rank : (c : tie.At-loop Inv-loop μ-loop) → c .before .before .before .rank2 .result ≡ read (rack-of c) .rank (b-of c)
+b-rank : (c : tie.At-loop Inv-loop μ-loop) → c .before .before .before .rank2 .result ≡ read low (rack-of c) .rank (b-of c)
 b-rank c = c .before .before .before .rank2 .ensures ∙ held-rank (held c) (b-of c) (b-small c)
 
 -- the level j - 1 is above both ends
-above : (c : tie.Else1 Inv-loop μ-loop) → Above (a-of (c .before)) (b-of (c .before)) (c .before .loop .j) (read (rack-of (c .before)))
+above : (c : tie.Else1 Inv-loop μ-loop) → Above (a-of (c .before)) (b-of (c .before)) (c .before .loop .j) (read low (rack-of (c .before)))
 above c =
     let h = c .before .before .before .higher .ensures in
     record {
@@ -56,16 +57,16 @@ above c =
     }
 
 -- a count at the level j - 1
-level : (c : tie.Else1 Inv-loop μ-loop) → c .before .loop .j - 1 < 4
+level : (c : tie.Else1 Inv-loop μ-loop) → c .before .loop .j - 1 < low .levels
 unfolding base
 level c = omega (arith, above c .some, above c .high)
 
 a-count : (c : tie.Else1 Inv-loop μ-loop)
-    → phiAt (rack-of (c .before)) (a-of (c .before)) (c .before .loop .j - 1) ≡ phi (read (rack-of (c .before))) (a-of (c .before)) (c .before .loop .j - 1)
+    → phiAt low (rack-of (c .before)) (a-of (c .before)) (c .before .loop .j - 1) ≡ phi (read low (rack-of (c .before))) (a-of (c .before)) (c .before .loop .j - 1)
 a-count c = held-phi (held (c .before)) (a-of (c .before)) (c .before .loop .j - 1) (a-small (c .before)) (level c)
 
 b-count : (c : tie.Else1 Inv-loop μ-loop)
-    → phiAt (rack-of (c .before)) (b-of (c .before)) (c .before .loop .j - 1) ≡ phi (read (rack-of (c .before))) (b-of (c .before)) (c .before .loop .j - 1)
+    → phiAt low (rack-of (c .before)) (b-of (c .before)) (c .before .loop .j - 1) ≡ phi (read low (rack-of (c .before))) (b-of (c .before)) (c .before .loop .j - 1)
 b-count c = held-phi (held (c .before)) (b-of (c .before)) (c .before .loop .j - 1) (b-small (c .before)) (level c)
 
 rank-requires : tie.Need-rank-requires Inv-loop μ-loop
@@ -88,7 +89,7 @@ loop-holds : tie.Need-loop-holds Inv-loop μ-loop
 loop-holds c =
     let e : c .top .result + 1 ≡ suc (base .top) = omega (arith, c .top .ensures) in
     let a = c .before .before .before .before .before .args in
-    (omega arith, ap (λ (x : ℕ). riserOf base (a .a) (a .b) x (read (a .rack .now))) e)
+    (omega arith, ap (λ (x : ℕ). riserOf base (a .a) (a .b) x (read low (a .rack .now))) e)
 
 sub-j : tie.Need-sub-j Inv-loop μ-loop
 sub-j c = omega arith
@@ -114,7 +115,7 @@ loop-less c = omega (arith, above (c .before .before .before .before .before .be
 
 -- a's count does not reach the level
 a-under : (c : tie.Else2 Inv-loop μ-loop)
-    → phi (read (rack-of (c .before .before .before .before))) (a-of (c .before .before .before .before)) (c .before .before .before .before .loop .j - 1)
+    → phi (read low (rack-of (c .before .before .before .before))) (a-of (c .before .before .before .before)) (c .before .before .before .before .loop .j - 1)
     < base .thr (c .before .before .before .before .loop .j - 1)
 a-under c = omega (arith, a-count (c .before .before .before), c .if2 .left, c .before .phi .ensures, c .before .before .threshold .ensures)
 
@@ -123,7 +124,7 @@ loop-again c =
     let d = c .before .before .before .before .before .before in
     let h = d .before in (
       omega (arith, h .loop .inv .0),
-      sym (search-on (a-of h) (b-of h) (h .loop .j) (read (rack-of h)) (above d) (a-under (c .before .before .before))
+      sym (search-on (a-of h) (b-of h) (h .loop .j) (read low (rack-of h)) (above d) (a-under (c .before .before .before))
           (omega (arith, b-count d, c .if3 .left, c .before .phi2 .ensures, c .before .before .threshold2 .ensures)))
           ∙ h .loop .inv .1,
     )
@@ -131,7 +132,7 @@ loop-again c =
 returns : tie.Need-returns Inv-loop μ-loop
 returns c =
     let h = c .before in
-    sym (search-ends (a-of h) (b-of h) (h .loop .j) (read (rack-of h))
+    sym (search-ends (a-of h) (b-of h) (h .loop .j) (read low (rack-of h))
     (λ x p q. omega (arith, c .if1 .taken, h .before .before .higher .ensures .2 x (omega (arith, a-rank h)) (omega (arith, b-rank h)))))
     ∙ h .loop .inv .1
 
@@ -139,7 +140,7 @@ returns-2 : tie.Need-returns-2 Inv-loop μ-loop
 returns-2 c =
     let d = c .before .before .before in
     let h = d .before in
-    sym (search-a (a-of h) (b-of h) (h .loop .j) (read (rack-of h)) (above d)
+    sym (search-a (a-of h) (b-of h) (h .loop .j) (read low (rack-of h)) (above d)
     (omega (arith, a-count d, c .if2 .taken, c .before .phi .ensures, c .before .before .threshold .ensures)))
     ∙ h .loop .inv .1
 
@@ -147,7 +148,7 @@ returns-3 : tie.Need-returns-3 Inv-loop μ-loop
 returns-3 c =
     let d = c .before .before .before .before .before .before in
     let h = d .before in
-    sym (search-b (a-of h) (b-of h) (h .loop .j) (read (rack-of h)) (above d) (a-under (c .before .before .before))
+    sym (search-b (a-of h) (b-of h) (h .loop .j) (read low (rack-of h)) (above d) (a-under (c .before .before .before))
     (omega (arith, b-count d, c .if3 .taken, c .before .phi2 .ensures, c .before .before .threshold2 .ensures)))
     ∙ h .loop .inv .1
 

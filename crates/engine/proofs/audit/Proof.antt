@@ -1,5 +1,6 @@
 -- `engine::audit` meets its contract. Assumes nothing.
 use mathlib.Core.Path.{refl}
+use Rattle.model.specs.Shape.{low}
 use Rattle.model.specs.Calls.{audit}
 use Rattle.engine.proofs.Numbers.{flag-off, flag-on, sized-length}
 use borrow.Author.Needs.{needs}
@@ -14,7 +15,7 @@ unfolding audit
 returns c = rw (flag-off (c .before .sized .ensures) (c .if1 .taken), audit) (record { number = refl; yes = refl })
 
 sound-requires : tie.Need-sound-requires
-sound-requires c κs = sized-length _ (flag-on (c .before .sized .ensures) (c .if1 .left))
+sound-requires c κs = sized-length low _ (flag-on (c .before .sized .ensures) (c .if1 .left))
 
 returns-2 : tie.Need-returns-2
 unfolding audit

@@ -1,7 +1,9 @@
 -- `engine::change` meets its contract. Assumes nothing.
 use mathlib.Core.Path.{refl, sym, _∙_}
 use native.Mathlib.Omega.{arith}
+use Rattle.model.specs.Shape.{low}
 use Rattle.model.specs.Change.{Change}
+use Rattle.model.proofs.Shapes.{low-good, low-room}
 use Rattle.engine.proofs.Changing.{turned-is, sounded, ran-is}
 use Rattle.changes.specs.Sounded.{Sounded, brought}
 use borrow.Author.Needs.{needs}
@@ -22,12 +24,12 @@ same-length : tie.Need-same-length
 same-length c = search needs
 
 returns : tie.Need-returns
-returns c = turned-is _ (given (begin (c .before))) _ (c .before .rack-number .ensures) (c .if1 .taken) refl refl refl
+returns c = turned-is low _ (given (begin (c .before))) _ (c .before .rack-number .ensures) (c .if1 .taken) refl refl refl
 
 -- neither 1 nor 6 fits
-good : (c : tie.Else1) → Sounded (begin (c .before) .args .rack .now)
+good : (c : tie.Else1) → Sounded low (begin (c .before) .args .rack .now)
 good c =
-    sounded _ (λ k. omega (arith, c .before .before .before .before .slice-known .given k))
+    sounded low-good low-room _ (λ k. omega (arith, c .before .before .before .before .slice-known .given k))
     (sym (c .before .rack-number .ensures) ∙ c .if1 .left)
 
 change-requires : tie.Need-change-requires

@@ -4,6 +4,7 @@ use Prim.Native.Nat.{ℕ}
 use lib.IntN.{pos, predℤ}
 use mir.Syntax.{w32}
 use mir.ValLaws.{toZ-ofZ}
+use Rattle.model.specs.Shape.{low}
 use Rattle.model.specs.Calls.{levelQuery}
 use Rattle.engine.proofs.Numbers.{told, none-told, asked}
 use borrow.Author.Needs.{needs}
@@ -18,7 +19,7 @@ unfolding levelQuery
 returns c = let e = c .before .one-number .ensures in rw (told e (c .if1 .taken), levelQuery) (record { number = e; level = refl })
 
 rank-requires : tie.Need-rank-requires
-rank-requires c κs = asked _ _ (sym (c .before .one-number .ensures) ∙ c .if1 .left)
+rank-requires c κs = asked low _ _ (sym (c .before .one-number .ensures) ∙ c .if1 .left)
 
 level-of-requires : tie.Need-level-of-requires
 level-of-requires c κs = search needs

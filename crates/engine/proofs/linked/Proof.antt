@@ -1,5 +1,6 @@
 -- `engine::linked` meets its contract. Assumes nothing.
 use mathlib.Core.Path.{_≡_, refl, sym, _∙_}
+use Rattle.model.specs.Shape.{low}
 use Rattle.model.specs.State.{base, edge}
 use Rattle.model.specs.Bytes.{read}
 use Rattle.model.specs.Calls.{linkedQuery, twoNumber}
@@ -9,14 +10,14 @@ use Rattle.engine.proofs.linked.Statement.{statement}
 use Rattle.engine.proofs.linked.Tie as tie
 
 -- no number fits
-good : (c : tie.Else1) → let a = c .before .before .before .args in twoNumber base (a .rack .now) (a .v) (a .w) ≡ 0
+good : (c : tie.Else1) → let a = c .before .before .before .args in twoNumber base low (a .rack .now) (a .v) (a .w) ≡ 0
 good c = sym (c .before .two-number .ensures) ∙ c .if1 .left
 
 -- whether they are linked
 edge-is : (c : tie.After-linked) →
     let a = c .before .before .before .before .args in
-    edge (read (a .rack .now)) (a .v) (a .w) ≡ c .linked .result
-edge-is c = sym (linked-edge _ _ _ (good (c .before))) ∙ sym (c .linked .ensures)
+    edge (read low (a .rack .now)) (a .v) (a .w) ≡ c .linked .result
+edge-is c = sym (linked-edge low _ _ _ (good (c .before))) ∙ sym (c .linked .ensures)
 
 two-number-requires : tie.Need-two-number-requires
 two-number-requires c κs = search needs
@@ -26,7 +27,7 @@ unfolding linkedQuery
 returns c = let e = c .before .two-number .ensures in rw (told e (c .if1 .taken), linkedQuery) (record { number = e; value = refl })
 
 linked-requires : tie.Need-linked-requires
-linked-requires c κs = asked-two _ _ _ (good c)
+linked-requires c κs = asked-two low _ _ _ (good c)
 
 returns-2 : tie.Need-returns-2
 unfolding linkedQuery

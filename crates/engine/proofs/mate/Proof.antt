@@ -1,5 +1,6 @@
 -- `engine::mate` meets its contract. Assumes nothing.
 use mathlib.Core.Path.{refl, sym, _∙_}
+use Rattle.model.specs.Shape.{low}
 use Rattle.model.specs.Calls.{mateQuery}
 use Rattle.engine.proofs.Numbers.{told, none-told, asked}
 use borrow.Author.Needs.{needs}
@@ -14,7 +15,7 @@ unfolding mateQuery
 returns c = let e = c .before .one-number .ensures in rw (told e (c .if1 .taken), mateQuery) (record { number = e; value = refl })
 
 mate-requires : tie.Need-mate-requires
-mate-requires c κs = asked _ _ (sym (c .before .one-number .ensures) ∙ c .if1 .left)
+mate-requires c κs = asked low _ _ (sym (c .before .one-number .ensures) ∙ c .if1 .left)
 
 cast-t7 : tie.Need-cast-t7
 cast-t7 c = search needs

@@ -1,11 +1,12 @@
 -- `layout::blank` meets its contract: zeros, and then a part of them overwritten. Assumes nothing.
 use mathlib.Core.Path.{_≡_, ap, ap₂, _∙_}
-use mathlib.Core.List.{List}
-use Prim.Native.Nat.{ℕ}
+use Prim.Native.Nat.{ℕ, _*_, _≤_}
+use native.Mathlib.Omega.{arith}
 use lib.ListN.{length, replicate}
 use borrow.Author.Needs.{needs}
-use borrow.Rule.Slice.PartMut.{putMid, midOf}
-use Rattle.layout.proofs.Cleared.{blank-is, mid-length}
+use borrow.Rule.Slice.PartMut.{putMid, mid-len}
+use Rattle.model.specs.Shape.{low, matesFrom, phisFrom, rackLength}
+use Rattle.layout.proofs.Cleared.{blank-is}
 use Rattle.layout.proofs.blank.Statement.{statement}
 use Rattle.layout.proofs.blank.Tie as tie
 
@@ -29,14 +30,15 @@ same-length c = search needs
 
 returns : tie.Need-returns
 returns c =
-    let a = c .before .before .before .before .before .before .before .before .before .args .rack .now in
-    let xs = c .before .before .before .before .before .before .fill .last .0 in
-    let whole : xs ≡ replicate 9992 0 =
-    c .before .before .before .before .before .before .fill .ensures
-    ∙ ap (λ (n : ℕ). replicate n 0) (c .before .before .before .before .before .before .before .before .before .pre) in
-    let part : c .before .before .fill2 .last .0 ≡ replicate 512 255 =
-    c .before .before .fill2 .ensures ∙ ap (λ (l : List ℕ). replicate (length (midOf 264 512 l)) 255) whole ∙ ap (λ (n : ℕ). replicate n 255) mid-length in
-    ap₂ (putMid 264 512) whole part ∙ blank-is
+    let first = c .before .before .before .before .before .before .fill in
+    let second = c .before .before .fill2 in
+    let long : length (c .before .before .before .before .before .before .before .before .before .args .rack .now) ≡ rackLength low =
+    c .before .before .before .before .before .before .before .before .before .pre in
+    let whole : first .last .0 ≡ replicate (rackLength low) 0 = first .ensures ∙ ap (λ (n : ℕ). replicate n 0) long in
+    let far : phisFrom low ≤ length (first .last .0) = omega (arith, first .kept, long) in
+    let part : second .last .0 ≡ replicate (2 * low .most) 255 =
+    second .ensures ∙ ap (λ (n : ℕ). replicate n 255) (mid-len (matesFrom low) (phisFrom low) (first .last .0) far) in
+    ap₂ (putMid (matesFrom low) (2 * low .most)) whole part ∙ blank-is low
 
 pub blank-spec : {M : Type 1} → statement M
 blank-spec =

@@ -4,6 +4,8 @@ use mathlib.Core.List.{List}
 use Prim.Native.Nat.{ℕ, _/_, _%_}
 use lib.ListN.{set}
 use borrow.Author.Needs.{needs}
+use Rattle.model.specs.State.{lowKind}
+use Rattle.model.proofs.Shapes.{low-good}
 use Rattle.layout.proofs.Cleared.{cleared}
 use Rattle.layout.proofs.clear.Statement.{statement}
 use Rattle.layout.proofs.clear.Tie as tie
@@ -29,7 +31,7 @@ same-length c = search needs
 returns : tie.Need-returns
 returns c =
     let n = c .before .before .before .before .before .args .n in
-    ap (λ (l : List ℕ). set (set l 0 (n % 256)) 1 (n / 256)) (c .before .before .blank .ensures) ∙ cleared n
+    ap (λ (l : List ℕ). set (set l 0 (n % 256)) 1 (n / 256)) (c .before .before .blank .ensures) ∙ cleared lowKind low-good n
 
 pub clear-spec : {M : Type 1} → statement M
 clear-spec =

@@ -1,16 +1,14 @@
 -- `layout::degree` meets its contract: the row is lent on as a part of the bytes. Assumes nothing.
-use mathlib.Core.Path.{_∙_, ap}
-use Rattle.bitset.specs.Row.{size}
-use Rattle.layout.proofs.Parts.{part-row, row-degree}
+use mathlib.Core.Path.{_∙_}
+use native.Mathlib.Omega.{arith}
+use Rattle.model.proofs.Shapes.{low-good}
+use Rattle.layout.proofs.Parts.{row-length, row-degree}
 use borrow.Author.Needs.{needs}
 use Rattle.layout.proofs.degree.Statement.{statement}
 use Rattle.layout.proofs.degree.Tie as tie
 
-mul-at : tie.Need-mul-at
-mul-at c = search needs
-
-add-at : tie.Need-add-at
-add-at c = search needs
+row-at-requires : tie.Need-row-at-requires
+row-at-requires c κs = search needs
 
 add-size : tie.Need-add-size
 add-size c = search needs
@@ -25,14 +23,15 @@ part-size-end : tie.Need-part-size-end
 part-size-end c = search needs
 
 size-requires : tie.Need-size-requires
-size-requires c κs = search needs
+size-requires c κs =
+    let s = c .before .before .before in
+    let long = row-length low-good (s .args .rack .now) (s .pre .0) (c .before .row-at .ensures) in
+    omega (arith, long)
 
 returns : tie.Need-returns
 returns c =
-    let a = c .before .before .before .args in
-    c .size .ensures ∙ ap size (part-row (a .rack .now) (a .v)) ∙ row-degree (a .rack .now) (a .v) (c .before .before .before .pre .0) (c .before .before .before .pre .1)
+    let s = c .before .before .before .before in
+    c .size .ensures ∙ row-degree low-good (s .args .rack .now) (s .pre .0) (c .before .before .row-at .ensures)
 
 pub degree-spec : {M : Type 1} → statement M
-degree-spec =
-    tie.close
-    (tie.spec mul-at add-at add-size sub-size part-size-start part-size-end size-requires returns)
+degree-spec = tie.close (tie.spec row-at-requires add-size sub-size part-size-start part-size-end size-requires returns)

@@ -1,5 +1,6 @@
 -- `layout::degrees` meets its contract: the rows are lent on as one part of the bytes. Assumes nothing.
 use mathlib.Core.Path.{_∙_}
+use Rattle.model.proofs.Shapes.{low-good}
 use Rattle.layout.proofs.Spans.{size-rows}
 use borrow.Author.Needs.{needs}
 use Rattle.layout.proofs.degrees.Statement.{statement}
@@ -26,7 +27,7 @@ size-by-words-requires c κs = search needs
 returns : tie.Need-returns
 returns c =
     let s = c .before .before .before in
-    c .size-by-words .ensures ∙ size-rows (s .args .rack .now) (s .args .n) (s .pre .0) (s .pre .1)
+    c .size-by-words .ensures ∙ size-rows low-good (s .args .rack .now) (s .args .n) (s .pre .0) (s .pre .1)
 
 pub degrees-spec : {M : Type 1} → statement M
 degrees-spec =

@@ -1,6 +1,7 @@
 -- `layout::edges` meets its contract: the definition, unfolded, is what the code does. Assumes nothing.
+use Rattle.model.specs.Bytes.{edgesAt}
+use Rattle.model.specs.Parts.{numAt}
 use borrow.Author.Needs.{needs}
-use Rattle.model.specs.Bytes.{edgesAt, twoAt}
 use Rattle.layout.proofs.edges.Statement.{statement}
 use Rattle.layout.proofs.edges.Tie as tie
 
@@ -14,9 +15,8 @@ two-bytes-requires : tie.Need-two-bytes-requires
 two-bytes-requires c κs = search needs
 
 returns : tie.Need-returns
-unfolding edgesAt twoAt
+unfolding edgesAt numAt
 returns c = search needs
 
 pub edges-spec : {M : Type 1} → statement M
-edges-spec =
-    tie.close (tie.spec shared-slice-read-two-bytes shared-slice-read-two-bytes-2 two-bytes-requires returns)
+edges-spec = tie.close (tie.spec shared-slice-read-two-bytes shared-slice-read-two-bytes-2 two-bytes-requires returns)

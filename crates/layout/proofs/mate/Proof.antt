@@ -1,14 +1,13 @@
--- `layout::mate` meets its contract: the definition, unfolded, is what the code does. Assumes nothing.
+-- `layout::mate` meets its contract: the definition, unfolded, is what the code does where the field stands. Assumes nothing.
+use mathlib.Core.Path.{ap, _∙_}
+use Rattle.model.specs.Bytes.{mateAt}
+use Rattle.model.specs.Parts.{numAt}
 use borrow.Author.Needs.{needs}
-use Rattle.model.specs.Bytes.{mateAt, twoAt}
 use Rattle.layout.proofs.mate.Statement.{statement}
 use Rattle.layout.proofs.mate.Tie as tie
 
-mul-at : tie.Need-mul-at
-mul-at c = search needs
-
-add-at : tie.Need-add-at
-add-at c = search needs
+mate-at-requires : tie.Need-mate-at-requires
+mate-at-requires c κs = search needs
 
 shared-slice-read-two-bytes : tie.Need-shared-slice-read-two-bytes
 shared-slice-read-two-bytes c = search needs
@@ -23,17 +22,10 @@ two-bytes-requires : tie.Need-two-bytes-requires
 two-bytes-requires c κs = search needs
 
 returns : tie.Need-returns
-unfolding mateAt twoAt
-returns c = search needs
+unfolding mateAt numAt
+returns c =
+    let s = c .before .before .before .before .before in
+    c .two-bytes .ensures ∙ ap (numAt 2 (s .args .rack .now)) (c .before .before .before .mate-at .ensures .at)
 
 pub mate-spec : {M : Type 1} → statement M
-mate-spec =
-    tie.close
-    (tie.spec
-    mul-at
-    add-at
-    shared-slice-read-two-bytes
-    add-two-bytes
-    shared-slice-read-two-bytes-2
-    two-bytes-requires
-    returns)
+mate-spec = tie.close (tie.spec mate-at-requires shared-slice-read-two-bytes add-two-bytes shared-slice-read-two-bytes-2 two-bytes-requires returns)

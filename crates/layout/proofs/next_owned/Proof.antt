@@ -1,18 +1,13 @@
 -- `layout::next_owned` meets its contract: the row is lent on as a part of the bytes. Assumes nothing.
-use mathlib.Core.Path.{subst}
-use mathlib.Core.List.{List}
-use Prim.Native.Nat.{ℕ}
-use Rattle.bitset.specs.Row.{Next}
-use Rattle.layout.proofs.Parts.{part-row, row-next}
+use native.Mathlib.Omega.{arith}
+use Rattle.model.proofs.Shapes.{low-good}
+use Rattle.layout.proofs.Parts.{row-length, row-next}
 use borrow.Author.Needs.{needs}
 use Rattle.layout.proofs.next_owned.Statement.{statement}
 use Rattle.layout.proofs.next_owned.Tie as tie
 
-mul-at : tie.Need-mul-at
-mul-at c = search needs
-
-add-at : tie.Need-add-at
-add-at c = search needs
+row-at-requires : tie.Need-row-at-requires
+row-at-requires c κs = search needs
 
 add-next : tie.Need-add-next
 add-next c = search needs
@@ -27,16 +22,15 @@ part-next-end : tie.Need-part-next-end
 part-next-end c = search needs
 
 next-requires : tie.Need-next-requires
-next-requires c κs = search needs
+next-requires c κs =
+    let s = c .before .before .before in
+    let long = row-length low-good (s .args .rack .now) (s .pre .0) (c .before .row-at .ensures) in
+    (omega (arith, long), omega (arith, long, s .pre .1 .1))
 
 returns : tie.Need-returns
 returns c =
-    let a = c .before .before .before .args in
-    let p = c .before .before .before .pre in
-    row-next (a .rack .now) (a .v) (p .0) (p .1 .0) (a .from) (c .next .result)
-    (subst (λ (row : List ℕ). Next row (a .from) (c .next .result)) (part-row (a .rack .now) (a .v)) (c .next .ensures))
+    let s = c .before .before .before .before in
+    row-next low-good (s .args .rack .now) (s .pre .0) (c .before .before .row-at .ensures) (s .args .from) (c .next .result) (c .next .ensures)
 
 pub next-owned-spec : {M : Type 1} → statement M
-next-owned-spec =
-    tie.close
-    (tie.spec mul-at add-at add-next sub-next part-next-start part-next-end next-requires returns)
+next-owned-spec = tie.close (tie.spec row-at-requires add-next sub-next part-next-start part-next-end next-requires returns)

@@ -1,18 +1,14 @@
 -- `layout::owns` meets its contract: the row is lent on as a part of the bytes. Assumes nothing.
-use mathlib.Core.Path.{_∙_, ap}
-use mathlib.Core.List.{List}
-use Prim.Native.Nat.{ℕ}
+use mathlib.Core.Path.{_∙_}
+use native.Mathlib.Omega.{arith}
+use Rattle.model.proofs.Shapes.{low-good}
+use Rattle.layout.proofs.Parts.{row-length, row-owns}
 use borrow.Author.Needs.{needs}
-use Rattle.bitset.specs.Row.{member}
-use Rattle.layout.proofs.Parts.{part-row, row-owns}
 use Rattle.layout.proofs.owns.Statement.{statement}
 use Rattle.layout.proofs.owns.Tie as tie
 
-mul-at : tie.Need-mul-at
-mul-at c = search needs
-
-add-at : tie.Need-add-at
-add-at c = search needs
+row-at-requires : tie.Need-row-at-requires
+row-at-requires c κs = search needs
 
 add-test : tie.Need-add-test
 add-test c = search needs
@@ -27,16 +23,15 @@ part-test-end : tie.Need-part-test-end
 part-test-end c = search needs
 
 test-requires : tie.Need-test-requires
-test-requires c κs = search needs
+test-requires c κs =
+    let s = c .before .before .before in
+    let long = row-length low-good (s .args .rack .now) (s .pre .0) (c .before .row-at .ensures) in
+    omega (arith, long, s .pre)
 
 returns : tie.Need-returns
 returns c =
-    let a = c .before .before .before .args in
-    let p = c .before .before .before .pre in
-    c .test .ensures ∙ ap (λ (row : List ℕ). member row (a .w)) (part-row (a .rack .now) (a .v))
-    ∙ row-owns (a .rack .now) (a .v) (p .0) (p .1 .0) (a .w) (p .1 .1)
+    let s = c .before .before .before .before in
+    c .test .ensures ∙ row-owns low-good (s .args .rack .now) (s .pre .0) (c .before .before .row-at .ensures) (s .args .w) (s .pre .1 .1)
 
 pub owns-spec : {M : Type 1} → statement M
-owns-spec =
-    tie.close
-    (tie.spec mul-at add-at add-test sub-test part-test-start part-test-end test-requires returns)
+owns-spec = tie.close (tie.spec row-at-requires add-test sub-test part-test-start part-test-end test-requires returns)

@@ -5,6 +5,7 @@ use Prim.Native.Nat.{ℕ, _+_}
 use native.Mathlib.Omega.{arith}
 use lib.Dec.{ltb}
 use Rattle.model.specs.Counting.{count}
+use Rattle.model.specs.Shape.{low}
 use Rattle.model.specs.Bytes.{rankAt}
 use Rattle.model.proofs.Counting.{count-bound}
 use Rattle.model.proofs.Prefix.{count-add, count-ext}
@@ -12,6 +13,9 @@ use Rattle.layout.proofs.Spans.{nonzero-ranks}
 use borrow.Author.Needs.{needs}
 use Rattle.layout.proofs.ranked.Statement.{statement}
 use Rattle.layout.proofs.ranked.Tie as tie
+
+add-middle : tie.Need-add-middle
+add-middle c = search needs
 
 sub-nonzero : tie.Need-sub-nonzero
 sub-nonzero c = search needs
@@ -39,7 +43,7 @@ nonzero-requires-2 c κs = search needs
 
 -- the two halves together
 whole : (c : tie.After-nonzero2) →
-    c .before .before .nonzero .result + c .nonzero2 .result ≡ count (λ v. ltb 0 (rankAt (c .before .before .before .before .before .args .rack .now) v)) 256
+    c .before .before .nonzero .result + c .nonzero2 .result ≡ count (λ v. ltb 0 (rankAt (c .before .before .before .before .before .args .rack .now) v)) (low .most)
 whole c =
     let s = c .before .before .before .before .before in
     let bs = s .args .rack .now in
@@ -51,7 +55,7 @@ whole c =
 
 add-result : tie.Need-add-result
 add-result c =
-    omega (arith, whole c, count-bound (λ v. ltb 0 (rankAt (c .before .before .before .before .before .args .rack .now) v)) 256)
+    omega (arith, whole c, count-bound (λ v. ltb 0 (rankAt (c .before .before .before .before .before .args .rack .now) v)) (low .most))
 
 returns : tie.Need-returns
 returns c = whole c
@@ -60,6 +64,7 @@ pub ranked-spec : {M : Type 1} → statement M
 ranked-spec =
     tie.close
     (tie.spec
+    add-middle
     sub-nonzero
     part-nonzero-start
     part-nonzero-end

@@ -1,6 +1,10 @@
--- `layout::set_edges` meets its contract: the definition, unfolded, is what the code does. Assumes nothing.
+-- `layout::set_edges` meets its contract: a number of two bytes needs no other. Assumes nothing.
+use mathlib.Core.Path.{_≡_, ap}
+use Prim.Native.Nat.{_%_}
+use native.Mathlib.Omega.{arith}
+use Rattle.model.specs.Bytes.{half}
+use Rattle.layout.specs.Setters.{setNum, setEdges}
 use borrow.Author.Needs.{needs}
-use Rattle.layout.specs.Setters.{setTwo, setEdges}
 use Rattle.layout.proofs.set_edges.Statement.{statement}
 use Rattle.layout.proofs.set_edges.Tie as tie
 
@@ -20,10 +24,11 @@ same-length : tie.Need-same-length
 same-length c = search needs
 
 returns : tie.Need-returns
-unfolding setTwo setEdges
-returns c = search needs
+unfolding setEdges setNum
+returns c =
+    let a = c .args in
+    let e : a .x ≡ a .x % half = omega arith in
+    ap (setNum 2 (a .rack .now) 2) e
 
 pub set-edges-spec : {M : Type 1} → statement M
-set-edges-spec =
-    tie.close
-    (tie.spec cast-rack slice-write-rack cast-rack-2 slice-write-rack-2 same-length returns)
+set-edges-spec = tie.close (tie.spec cast-rack slice-write-rack cast-rack-2 slice-write-rack-2 same-length returns)

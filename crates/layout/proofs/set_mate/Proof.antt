@@ -1,16 +1,15 @@
--- `layout::set_mate` meets its contract: the definition, unfolded, is what the code does. Assumes nothing.
+-- `layout::set_mate` meets its contract: the definition, unfolded, is what the code does where the field stands. Assumes nothing.
+use mathlib.Core.Path.{ap}
+use Prim.Native.Nat.{ℕ}
 use native.Mathlib.Omega.{arith}
 use lib.ListN.{length-set}
+use Rattle.layout.specs.Setters.{setNum, setMate}
 use borrow.Author.Needs.{needs}
-use Rattle.layout.specs.Setters.{setTwo, setMate}
 use Rattle.layout.proofs.set_mate.Statement.{statement}
 use Rattle.layout.proofs.set_mate.Tie as tie
 
-mul-at : tie.Need-mul-at
-mul-at c = search needs
-
-add-at : tie.Need-add-at
-add-at c = search needs
+mate-at-requires : tie.Need-mate-at-requires
+mate-at-requires c κs = search needs
 
 cast-rack : tie.Need-cast-rack
 cast-rack c = search needs
@@ -25,25 +24,16 @@ add-rack : tie.Need-add-rack
 add-rack c = search needs
 
 slice-write-rack-2 : tie.Need-slice-write-rack-2
-slice-write-rack-2 c = simp length-set (omega arith)
+slice-write-rack-2 c = simp length-set (omega (arith, c .mate-at .ensures .within, c .before .before .pre .0))
 
 same-length : tie.Need-same-length
 same-length c = search needs
 
 returns : tie.Need-returns
-unfolding setTwo setMate
-returns c = search needs
+unfolding setMate setNum
+returns c =
+    let a = c .before .before .args in
+    ap (λ (k : ℕ). setNum 2 (a .rack .now) k (a .x)) (c .mate-at .ensures .at)
 
 pub set-mate-spec : {M : Type 1} → statement M
-set-mate-spec =
-    tie.close
-    (tie.spec
-    mul-at
-    add-at
-    cast-rack
-    slice-write-rack
-    cast-rack-2
-    add-rack
-    slice-write-rack-2
-    same-length
-    returns)
+set-mate-spec = tie.close (tie.spec mate-at-requires cast-rack slice-write-rack cast-rack-2 add-rack slice-write-rack-2 same-length returns)

@@ -1,6 +1,7 @@
 -- `layout::size` meets its contract: the definition, unfolded, is what the code does. Assumes nothing.
+use Rattle.model.specs.Bytes.{sizeAt}
+use Rattle.model.specs.Parts.{numAt}
 use borrow.Author.Needs.{needs}
-use Rattle.model.specs.Bytes.{sizeAt, twoAt}
 use Rattle.layout.proofs.size.Statement.{statement}
 use Rattle.layout.proofs.size.Tie as tie
 
@@ -17,10 +18,8 @@ cast-result : tie.Need-cast-result
 cast-result c = search needs
 
 returns : tie.Need-returns
-unfolding sizeAt twoAt
+unfolding sizeAt numAt
 returns c = search needs
 
 pub size-spec : {M : Type 1} → statement M
-size-spec =
-    tie.close
-    (tie.spec shared-slice-read-two-bytes shared-slice-read-two-bytes-2 two-bytes-requires cast-result returns)
+size-spec = tie.close (tie.spec shared-slice-read-two-bytes shared-slice-read-two-bytes-2 two-bytes-requires cast-result returns)

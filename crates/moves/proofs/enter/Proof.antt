@@ -5,6 +5,7 @@ use mathlib.Core.List.{List}
 use Prim.Native.Nat.{ℕ, _+_}
 use native.Mathlib.Omega.{arith}
 use borrow.Author.Needs.{needs}
+use Rattle.model.specs.Shape.{low}
 use Rattle.model.specs.State.{base}
 use Rattle.model.specs.Bytes.{read}
 use Rattle.layout.specs.Setters.{setRank}
@@ -54,8 +55,8 @@ returns c =
     let p = lowered .before .before .before .pre in
     let last : List ℕ → List ℕ = λ bs. setRank bs (a .u) (a .i + 1) in
     c .before .before .set-rank .ensures
-    ∙ ap last (zeroed .zero-counts .ensures ∙ ap (λ (bs : List ℕ). recounted none bs (a .u) 0 (a .i + 1)) (lowered .lower-counts .ensures))
-    ∙ enter-bytes (read (a .rack .now)) (p .0 .proper) (a .i) (a .u) (p .1 .0 .0) (p .1 .0 .2) (p .1 .1) (p .1 .0 .1)
+    ∙ ap last (zeroed .zero-counts .ensures ∙ ap (λ (bs : List ℕ). recounted low none bs (a .u) 0 (a .i + 1)) (lowered .lower-counts .ensures))
+    ∙ enter-bytes (read low (a .rack .now)) (p .0 .proper) (a .i) (a .u) (p .1 .0 .0) (p .1 .0 .2) (p .1 .1) (p .1 .0 .1)
 
 pub enter-spec : {M : Type 1} → statement M
 enter-spec =

@@ -5,6 +5,7 @@ use mathlib.Core.List.{List}
 use Prim.Native.Nat.{ℕ, _<_}
 use native.Mathlib.Omega.{arith}
 use borrow.Author.Needs.{needs}
+use Rattle.model.specs.Shape.{low}
 use Rattle.model.specs.State.{base}
 use Rattle.model.specs.Bytes.{read}
 use Rattle.layout.specs.Setters.{setPhi, setRank}
@@ -18,7 +19,7 @@ fits : (c : tie.Start) → c .args .k < 256
 fits c =
     let a = c .args in
     let p = c .pre in
-    omega (arith, p .1 .1 .1, fall-fits (read (a .rack .now)) (p .0 .proper) (a .i) (a .v) (p .1 .0 .0) (p .1 .0 .2) (p .1 .1 .0) (p .1 .0 .1))
+    omega (arith, p .1 .1 .1, fall-fits (read low (a .rack .now)) (p .0 .proper) (a .i) (a .v) (p .1 .0 .0) (p .1 .0 .2) (p .1 .1 .0) (p .1 .0 .1))
 
 raise-counts-requires : tie.Need-raise-counts-requires
 raise-counts-requires c κs = let p = c .before .before .pre in (p .0, (p .1 .0, p .1 .1 .0))
@@ -55,9 +56,9 @@ returns c =
     let start = raised .before .before .before in
     let a = start .args in
     let p = start .pre in
-    let s = read (a .rack .now) in
+    let s = read low (a .rack .now) in
     let row = p .1 .1 .0 in
-    let last : List ℕ → ℕ → List ℕ = λ bs x. setRank (setPhi bs (a .v) (a .i) x) (a .v) (a .i) in
+    let last : List ℕ → ℕ → List ℕ = λ bs x. setRank (setPhi low bs (a .v) (a .i) x) (a .v) (a .i) in
     let bytes =
     ended .set-rank .ensures ∙ ap (λ (bs : List ℕ). setRank bs (a .v) (a .i)) (counted .set-phi .ensures)
     ∙ ap₂ last (raised .raise-counts .ensures .0) (p .1 .1 .1)

@@ -2,6 +2,7 @@
 use mathlib.Core.Path.{_≡_, sym, _∙_}
 use Prim.Native.Nat.{_-_, _*_, _≤_, _<_}
 use native.Mathlib.Omega.{arith}
+use Rattle.model.specs.Shape.{low}
 use Rattle.model.specs.State.{State}
 use Rattle.model.specs.Bytes.{read}
 use Rattle.moves.proofs.Held.{held-sized, held-size}
@@ -10,7 +11,7 @@ use Rattle.moves.proofs.hand_over.Statement.{statement}
 use Rattle.moves.proofs.hand_over.Tie as tie
 
 abbrev Inv-loop : tie.InvT-loop
-Inv-loop rack₀ v i n split₀ k₀ rack split k = Over (read rack₀) i v rack split k
+Inv-loop rack₀ v i n split₀ k₀ rack split k = Over (read low rack₀) i v rack split k
 
 abbrev μ-loop : tie.MeasureT-loop
 μ-loop rack₀ v i n split₀ k₀ rack split k = n - 64 * k
@@ -20,7 +21,7 @@ abbrev start : tie.At-loop Inv-loop μ-loop → tie.Start Inv-loop μ-loop
 start c = c .before .before .before .before
 
 abbrev state : tie.Start Inv-loop μ-loop → State
-state s = read (s .args .rack .now)
+state s = read low (s .args .rack .now)
 
 -- the size that was read
 size-is : (c : tie.At-loop Inv-loop μ-loop) → c .before .size .result ≡ state (start c) .n

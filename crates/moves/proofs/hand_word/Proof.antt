@@ -9,18 +9,19 @@ use lib.Bits.{bitAnd}
 use lib.Pow.{pow-mono}
 use lib.Count.{trailingZeros}
 use borrow.Author.Needs.{needs}
+use Rattle.model.specs.Shape.{low}
 use Rattle.model.specs.State.{base, State}
 use Rattle.model.specs.Bytes.{read}
 use Rattle.model.proofs.Counting.{count-bound}
 use Rattle.bitset.proofs.Words.{dropped-less, lowest}
-use Rattle.layout.specs.Setters.{own}
-use Rattle.moves.proofs.Held.{held-sized, held-small, held-owns}
+use Rattle.layout.specs.Setters.{Sized, own}
+use Rattle.moves.proofs.Held.{held-good, held-sized, held-small, held-owns}
 use Rattle.moves.proofs.HandWord.{goes, stays, Done, done-sized, done-rank, done-yes, done-no, Handing, handing-start, handing-turn, handing-next, handing-bytes, handing-numbers}
 use Rattle.moves.proofs.hand_word.Statement.{statement}
 use Rattle.moves.proofs.hand_word.Tie as tie
 
 abbrev Inv-loop : tie.InvT-loop
-Inv-loop rack₀ v i k handed₀ below₀ kept₀ x₀ rack handed below kept x = Handing (read rack₀) i v k handed₀ below₀ rack handed below kept x
+Inv-loop rack₀ v i k handed₀ below₀ kept₀ x₀ rack handed below kept x = Handing (read low rack₀) i v k handed₀ below₀ rack handed below kept x
 
 abbrev μ-loop : tie.MeasureT-loop
 μ-loop rack₀ v i k handed₀ below₀ kept₀ x₀ rack handed below kept x = x
@@ -30,10 +31,15 @@ abbrev start : tie.At-loop Inv-loop μ-loop → tie.Start Inv-loop μ-loop
 start c = c .before .before .before .before
 
 abbrev state : tie.Start Inv-loop μ-loop → State
-state s = read (s .args .rack .now)
+state s = read low (s .args .rack .now)
 
-v-small : (s : tie.Start Inv-loop μ-loop) → s .args .v < 256
+v-small : (s : tie.Start Inv-loop μ-loop) → s .args .v < low .most
 v-small s = held-small (s .pre .0) (s .args .v) (s .pre .1 .0 .0)
+
+-- the bytes are as many as a rack has, wherever the loop stands
+sized : (c : tie.At-loop Inv-loop μ-loop) → Sized low (c .loop .rack)
+unfolding read
+sized c = done-sized (c .loop .inv .done) (held-good (start c .pre .0))
 
 word-requires : tie.Need-word-requires Inv-loop μ-loop
 word-requires c κs = let s = c .before .before in (held-sized (s .pre .0), (v-small s, s .pre .1 .0 .2))
@@ -61,7 +67,7 @@ turn : (c : tie.In-loop Inv-loop μ-loop) →
     × Done (state (start (c .before))) (a .i) (a .v) (a .k) (a .split .handed) (a .split .below) (l .rack) (l .handed) (l .below) (l .kept) t
 turn c = handing-turn (start (c .before) .pre .0 .proper) (c .before .loop .inv) (some c)
 
-inside : (c : tie.In-loop Inv-loop μ-loop) → 64 * start (c .before) .args .k + trailingZeros 64 (c .before .loop .x) < 256
+inside : (c : tie.In-loop Inv-loop μ-loop) → 64 * start (c .before) .args .k + trailingZeros 64 (c .before .loop .x) < low .most
 inside c = omega (arith, turn c .0, start (c .before) .pre .1 .0 .2)
 
 place-requires : tie.Need-place-requires Inv-loop μ-loop
@@ -73,7 +79,7 @@ sub-rest c = omega (arith, some (c .before))
 rank-requires : tie.Need-rank-requires Inv-loop μ-loop
 rank-requires c κs =
     let p = c .before in
-    (done-sized (turn (p .before) .2), omega (arith, p .place .ensures, inside (p .before)))
+    (sized (p .before .before), omega (arith, p .place .ensures, inside (p .before)))
 
 cast-if1 : tie.Need-cast-if1 Inv-loop μ-loop
 cast-if1 c = search needs
@@ -93,21 +99,23 @@ ranked : (c : tie.After-rank Inv-loop μ-loop) →
     let t = taken c in
     let a = start (t .before) .args in
     c .rank .result ≡ state (start (t .before)) .rank (64 * a .k + trailingZeros 64 (t .before .loop .x))
+unfolding read
 ranked c =
     let t = taken c in
     let d = turn t .2 in
     let a = start (t .before) .args in
     subst (λ (w : ℕ). c .rank .result ≡ state (start (t .before)) .rank w) (c .before .before .place .ensures)
-    (c .rank .ensures ∙ done-rank d (c .before .before .place .result) (omega (arith, c .before .before .place .ensures, inside t)))
+    (c .rank .ensures ∙ done-rank d (held-good (start (t .before) .pre .0)) (c .before .before .place .result)
+    (omega (arith, c .before .before .place .ensures, inside t)))
 
 own-requires : tie.Need-own-requires Inv-loop μ-loop
 own-requires c κs =
     let r = c .before .before in
     let t = taken r in
-    (done-sized (turn t .2), (omega (arith, r .before .before .place .ensures, inside t), v-small (start (t .before))))
+    (sized (t .before), (omega (arith, r .before .before .place .ensures, inside t), v-small (start (t .before))))
 
 -- the numbers are small
-few : (c : tie.In-loop Inv-loop μ-loop) → (c .before .loop .handed ≤ 512) × (c .before .loop .below ≤ 512)
+few : (c : tie.In-loop Inv-loop μ-loop) → (c .before .loop .handed ≤ low .most + 64) × (c .before .loop .below ≤ low .most + 64)
 few c =
     let s = start (c .before) in
     let a = s .args in
@@ -145,6 +153,7 @@ loop-less : tie.Need-loop-less Inv-loop μ-loop
 loop-less c = low-bit (taken (c .before .before .before .before .before)) .1
 
 loop-again : tie.Need-loop-again Inv-loop μ-loop
+unfolding read
 loop-again c =
     let o = c .before .before in
     let r = o .before .before .before in
@@ -153,8 +162,8 @@ loop-again c =
     let d = turn t in
     let here : r .before .before .place .result ≡ 64 * s .args .k + trailingZeros 64 (t .before .loop .x) = r .before .before .place .ensures in
     handing-next (s .pre .0 .proper) (t .before .loop .inv) (some t)
-    (done-yes (d .2) (d .1) (v-small s) (inside t) (omega (arith, ranked r, o .before .before .if1 .taken))
-    (subst (λ (w : ℕ). o .own .last .0 ≡ own (t .before .loop .rack) w (s .args .v)) here (o .own .ensures)) (omega arith) (omega arith))
+    (done-yes (d .2) (d .1) (held-good (s .pre .0)) (v-small s) (inside t) (omega (arith, ranked r, o .before .before .if1 .taken))
+    (subst (λ (w : ℕ). o .own .last .0 ≡ own low (t .before .loop .rack) w (s .args .v)) here (o .own .ensures)) (omega arith) (omega arith))
 
 loop-less-2 : tie.Need-loop-less-2 Inv-loop μ-loop
 loop-less-2 c = low-bit (taken (c .before)) .1
@@ -175,15 +184,16 @@ over c = omega (arith, c .loop-test .left)
 set-word-requires : tie.Need-set-word-requires Inv-loop μ-loop
 set-word-requires c κs =
     let l = c .before .before in
-    (done-sized (l .loop .inv .done), (v-small (start l), start l .pre .1 .0 .2))
+    (sized l, (v-small (start l), start l .pre .1 .0 .2))
 
 same-length : tie.Need-same-length Inv-loop μ-loop
 same-length c =
     let w = c .before .before in
     let l = w .before .before .before in
-    w .set-word .kept .0 ∙ done-sized (l .loop .inv .done) ∙ sym (held-sized (start l .pre .0))
+    w .set-word .kept .0 ∙ sized l ∙ sym (held-sized (start l .pre .0))
 
 returns : tie.Need-returns Inv-loop μ-loop
+unfolding read
 returns c =
     let w = c .before .before in
     let e = w .before .before in

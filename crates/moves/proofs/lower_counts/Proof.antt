@@ -7,30 +7,33 @@ use native.Mathlib.Omega.{arith}
 use lib.Dec.{T}
 use borrow.Author.Needs.{needs}
 use Rattle.model.specs.Counting.{upd}
+use Rattle.model.specs.Shape.{low}
 use Rattle.model.specs.State.{base, State}
 use Rattle.model.specs.Bytes.{phiAt, read}
 use Rattle.layout.specs.Setters.{Sized}
 use Rattle.moves.specs.Counts.{hit, loweredCounts}
-use Rattle.moves.proofs.Held.{held-sized, held-rank}
+use Rattle.moves.proofs.Held.{held-sized, held-small, held-rank}
 use Rattle.moves.proofs.Recount.{hit-counted}
 use Rattle.moves.proofs.Choices.{hit-of}
+use Rattle.model.proofs.Shapes.{low-good}
+use Rattle.layout.proofs.Walks.{row-whole}
 use Rattle.layout.proofs.Reached.{reached, further-less}
 use Rattle.moves.proofs.CountWalk.{Counted, counted-sized, counted-rank, counted-phi, RowCounted, Walk, u-small, row-starts, w-reached, w-small, w-owned, w-sized, row-goes-on, row-ends, same-size, row-low, lowered-quiet, lowered-turn}
 use Rattle.moves.proofs.lower_counts.Statement.{statement}
 use Rattle.moves.proofs.lower_counts.Tie as tie
 
 abbrev Inv-loop : tie.InvT-loop
-Inv-loop rack₀ u i from at₀ rack at = RowCounted (read rack₀) (loweredCounts (read rack₀) i u) u rack at
+Inv-loop rack₀ u i from at₀ rack at = RowCounted low (read low rack₀) (loweredCounts (read low rack₀) i u) u rack at
 
 abbrev μ-loop : tie.MeasureT-loop
-μ-loop rack₀ u i from at₀ rack at = 256 - reached at
+μ-loop rack₀ u i from at₀ rack at = low .most - reached (low .most) at
 
 walk : (d : tie.Start Inv-loop μ-loop)
-    → Walk (d .args .rack .now) (loweredCounts (read (d .args .rack .now)) (d .args .i) (d .args .u)) (d .args .u)
+    → Walk low (d .args .rack .now) (loweredCounts (read low (d .args .rack .now)) (d .args .i) (d .args .u)) (d .args .u)
 walk d = record {
   held = d .pre .0;
   inside = d .pre .1 .0 .0;
-  quiet = lowered-quiet (read (d .args .rack .now)) (d .args .i) (d .args .u);
+  quiet = lowered-quiet (read low (d .args .rack .now)) (d .args .i) (d .args .u);
 }
 
 -- where the function begins
@@ -41,24 +44,24 @@ begin at = at .before .before .before .before .before .before
 abbrev turn : tie.After-place Inv-loop μ-loop → tie.At-loop Inv-loop μ-loop
 turn c = c .before .before .before
 
-level : (at : tie.At-loop Inv-loop μ-loop) → begin at .args .i < 4
+level : (at : tie.At-loop Inv-loop μ-loop) → begin at .args .i < low .levels
 unfolding base
 level at = omega arith
 
-sized : (at : tie.At-loop Inv-loop μ-loop) → Sized (at .loop .rack)
+sized : (at : tie.At-loop Inv-loop μ-loop) → Sized low (at .loop .rack)
 sized at = w-sized (walk (begin at)) (at .loop .inv)
 
 abbrev state : tie.At-loop Inv-loop μ-loop → State
-state at = read (begin at .args .rack .now)
+state at = read low (begin at .args .rack .now)
 
 some : (c : tie.Then1 Inv-loop μ-loop) → 0 < c .before .before .loop .at .rest
 some c = omega (arith, c .if1 .taken)
 
 -- what holds in a turn
-place : (c : tie.After-place Inv-loop μ-loop) → c .place .result ≡ reached (turn c .loop .at)
+place : (c : tie.After-place Inv-loop μ-loop) → c .place .result ≡ reached (low .most) (turn c .loop .at)
 place c = w-reached (walk (begin (turn c))) (turn c .loop .inv) (some (c .before)) (c .place .ensures)
 
-small : (c : tie.After-place Inv-loop μ-loop) → c .place .result < 256
+small : (c : tie.After-place Inv-loop μ-loop) → c .place .result < low .most
 small c = w-small (walk (begin (turn c))) (turn c .loop .inv) (some (c .before)) (c .place .ensures)
 
 owned : (c : tie.After-place Inv-loop μ-loop) → T (state (turn c) .owns (begin (turn c) .args .u) (c .place .result))
@@ -73,7 +76,7 @@ rank-is : (c : tie.After-rank2 Inv-loop μ-loop) → c .rank2 .result ≡ state 
 rank-is c =
     let p = c .before .before in
     let l = turn p .loop in
-    c .rank2 .ensures ∙ counted-rank (state (turn p)) (l .inv .counts) (l .rack) (l .inv .is) (p .place .result) (small p)
+    c .rank2 .ensures ∙ counted-rank (state (turn p)) (begin (turn p) .pre .0 .proper) (l .inv .counts) (l .rack) (l .inv .is) (p .place .result) (small p)
 
 rank-low : (c : tie.After-place Inv-loop μ-loop) → state (turn c) .rank (c .place .result) ≤ begin (turn c) .args .i
 rank-low c =
@@ -83,7 +86,7 @@ rank-low c =
 -- w's counts from both ranks up to i are at least 1
 counted : (c : tie.After-place Inv-loop μ-loop) (x : ℕ) → turn c .before .before .before .rank .result ≤ x
     → state (turn c) .rank (c .place .result) ≤ x → x ≤ begin (turn c) .args .i
-    → 1 ≤ phiAt (turn c .loop .rack) (c .place .result) x
+    → 1 ≤ phiAt low (turn c .loop .rack) (c .place .result) x
 counted c x p q r =
     let b = begin (turn c) in
     let a = b .args in
@@ -93,7 +96,7 @@ counted c x p q r =
     let there : T (hit s (a .i) (a .u) w x) = hit-of s (a .i) (a .u) w x (owned c) (omega (arith, from-is (turn c))) q r in
     omega (
       arith,
-      counted-phi s (l .inv .counts) (l .rack) (l .inv .is) w x (small c) (omega (arith, level (turn c))),
+      counted-phi s (b .pre .0 .proper) (l .inv .counts) (l .rack) (l .inv .is) w x (small c) (omega (arith, level (turn c))),
       l .inv .left w x (omega (arith, place c)),
       hit-counted s (b .pre .0 .proper) (a .i) (a .u) w x there,
     )
@@ -113,8 +116,8 @@ turned c =
     let f = from-is at in
     let r = rank-is (c .before) in
     let b = rank-low p in
-    let low = begin at .pre .1 .0 in
-    let step = lowered-turn (state at) (a .i) (a .u) (l .rack) (l .at) (l .inv) (p .place .result) (c .if2 .rack) (place p) (small p) (level at)
+    let under = begin at .pre .1 .0 in
+    let step = lowered-turn (state at) (begin at .pre .0 .proper) (a .i) (a .u) (l .rack) (l .at) (l .inv) (p .place .result) (c .if2 .rack) (place p) (small p) (level at)
     (owned p) in
     ⊎-elim
     (λ k. step from (omega arith) (omega (arith, k .0 .taken)) (λ x p q. omega arith) (omega arith) (k .5 ∙ k .2 .ensures))
@@ -123,7 +126,7 @@ turned c =
     (c .if2 .came)
 
 rank-requires : tie.Need-rank-requires Inv-loop μ-loop
-rank-requires c κs = let h = c .before .before .pre .0 in (held-sized h, omega (arith, h .proper .few))
+rank-requires c κs = let h = c .before .before .pre .0 in (held-sized h, held-small h _ (c .before .before .pre .1 .0 .0))
 
 cast-from : tie.Need-cast-from Inv-loop μ-loop
 cast-from c = search needs
@@ -172,7 +175,7 @@ step-counts-requires-2 c κs =
 next-requires : tie.Need-next-requires Inv-loop μ-loop
 next-requires c κs =
     let p = c .before .before .before .before in (
-      counted-sized (state (turn p)) _ (c .before .if2 .rack) (turned (c .before)),
+      counted-sized (state (turn p)) (begin (turn p) .pre .0 .proper) _ (c .before .if2 .rack) (turned (c .before)),
       (u-small (walk (begin (turn p))), (some (p .before), turn p .loop .inv .here (some (p .before)) .inside)),
     )
 
@@ -180,7 +183,7 @@ loop-less : tie.Need-loop-less Inv-loop μ-loop
 loop-less c =
     let p = c .before .before .before .before .before in
     let here = turn p .loop .inv .here (some (p .before)) in
-    omega (arith, small p, place p, further-less (some (p .before)) here (c .next .ensures))
+    omega (arith, small p, place p, further-less (row-whole low-good) (some (p .before)) here (c .next .ensures))
 
 loop-again : tie.Need-loop-again Inv-loop μ-loop
 loop-again c =

@@ -5,32 +5,34 @@ use mathlib.Core.Logic.{_≢_}
 use mathlib.Core.List.{List}
 use Prim.Native.Nat.{ℕ, _<_}
 use native.Mathlib.Omega.{arith}
+use Rattle.model.specs.Shape.{low}
 use Rattle.model.specs.Bytes.{noMate, mateAt, mateEntry, read, write}
 use Rattle.model.specs.Moves.{part}
 use Rattle.model.proofs.Limits.{mateEntry-mate}
 use Rattle.layout.specs.Setters.{setMate}
 use Rattle.moves.specs.Proper.{Held}
-use Rattle.moves.proofs.Held.{held-sized, held-mate, held-small}
+use Rattle.moves.proofs.Held.{held-sized, held-few, held-mate, held-small}
 use Rattle.moves.proofs.Pairs.{entry-free, entry-mate, part-free, part-image}
 use Rattle.moves.proofs.part.Statement.{statement}
 use Rattle.moves.proofs.part.Tie as tie
 
 -- what the entry that was read says of v, and what the bytes are after both entries are set
-module _ {bs : List ℕ} (h : Held bs) {v : ℕ} (l : v < read bs .n) {m : ℕ} (e : m ≡ mateAt bs v) where
-  entry : m ≡ mateEntry (read bs) v
+module _ {bs : List ℕ} (h : Held low bs) {v : ℕ} (l : v < read low bs .n) {m : ℕ} (e : m ≡ mateAt low bs v) where
+  entry : m ≡ mateEntry (read low bs) v
   entry = e ∙ held-mate h v (held-small h v l)
 
-  stays : m ≡ noMate → bs ≡ write (part v (read bs))
-  stays q = h .written ∙ part-free (read bs) (h .proper) v l (entry-free (read bs) (h .proper) v l (sym entry ∙ q))
+  stays : m ≡ noMate → bs ≡ write (part v (read low bs))
+  stays q = h .written ∙ part-free (read low bs) (h .proper) v l (entry-free (read low bs) (h .proper) v l (sym entry ∙ q))
 
-  named : m ≢ noMate → m ≡ read bs .mate v
-  named d = entry ∙ mateEntry-mate (read bs) v (entry-mate (read bs) (h .proper) v l (λ q. d (entry ∙ q)))
+  named : m ≢ noMate → m ≡ read low bs .mate v
+  named d = entry ∙ mateEntry-mate (read low bs) v (entry-mate (read low bs) (h .proper) v l (λ q. d (entry ∙ q)))
 
-  within : m ≢ noMate → m < 256
-  within d = omega (arith, named d, h .proper .mates v l, h .proper .few)
+  within : m ≢ noMate → m < low .most
+  within d = omega (arith, named d, h .proper .mates v l, held-few h)
 
-  parts : m ≢ noMate → setMate (setMate bs m noMate) v noMate ≡ write (part v (read bs))
-  parts d = ap₂ (λ (b : List ℕ) (x : ℕ). setMate (setMate b x noMate) v noMate) (h .written) (named d) ∙ part-image (read bs) (h .proper) v l
+  parts : m ≢ noMate → setMate low (setMate low bs m noMate) v noMate ≡ write (part v (read low bs))
+  unfolding read
+  parts d = ap₂ (λ (b : List ℕ) (x : ℕ). setMate low (setMate low b x noMate) v noMate) (h .written) (named d) ∙ part-image (read low bs) (h .proper) v l
 
 mate-requires : tie.Need-mate-requires
 mate-requires c κs =
@@ -66,7 +68,7 @@ returns-2 c =
     let once = c .before .before .before .before .before .before in
     let mated = once .before .before in
     let s = mated .before .before .before .before in
-    c .before .before .set-mate2 .ensures ∙ ap (λ (bs : List ℕ). setMate bs (s .args .v) noMate) (once .set-mate .ensures)
+    c .before .before .set-mate2 .ensures ∙ ap (λ (bs : List ℕ). setMate low bs (s .args .v) noMate) (once .set-mate .ensures)
     ∙ parts (s .pre .0) (s .pre .1) (mated .before .mate .ensures) (mated .if1 .left)
 
 pub part-spec : {M : Type 1} → statement M

@@ -3,6 +3,7 @@ use borrow.Author.Needs.{needs}
 use mathlib.Core.Path.{_∙_, ap}
 use mathlib.Core.List.{List}
 use Prim.Native.Nat.{ℕ}
+use Rattle.model.specs.Shape.{low}
 use Rattle.layout.specs.Setters.{own}
 use Rattle.moves.proofs.pass.Statement.{statement}
 use Rattle.moves.proofs.pass.Tie as tie
@@ -20,7 +21,7 @@ returns : tie.Need-returns
 returns c =
     let s = c .before .before .before .before .before .before .before .before .before in
     c .before .before .own .ensures
-    ∙ ap (λ (bs : List ℕ). own bs (s .args .w) (s .args .v)) (c .before .before .before .before .before .before .disown .ensures)
+    ∙ ap (λ (bs : List ℕ). own low bs (s .args .w) (s .args .v)) (c .before .before .before .before .before .before .disown .ensures)
 
 pub pass-spec : {M : Type 1} → statement M
 pass-spec = tie.close (tie.spec disown-requires own-requires same-length returns)

@@ -6,6 +6,7 @@ use Prim.Native.Nat.{_+_, _-_, _<_}
 use native.Mathlib.Omega.{arith}
 use lib.Dec.{T}
 use Rattle.model.specs.Counting.{upd}
+use Rattle.model.specs.Shape.{low}
 use Rattle.model.specs.State.{base, State}
 use Rattle.model.specs.Bytes.{read}
 use Rattle.model.proofs.Facts.{Says}
@@ -14,24 +15,26 @@ use Rattle.layout.proofs.Said.{says-is}
 use Rattle.moves.specs.Counts.{raisedCounts}
 use Rattle.moves.proofs.Held.{held-sized}
 use Rattle.moves.proofs.Recount.{raised-fits}
+use Rattle.model.proofs.Shapes.{low-good}
+use Rattle.layout.proofs.Walks.{row-whole}
 use Rattle.layout.proofs.Reached.{reached, further-less}
 use Rattle.moves.proofs.CountWalk.{Counted, counted-sized, RowCounted, Walk, u-small, came-first, row-starts, w-reached, w-small, w-owned, w-sized, came-next, row-goes-on, row-ends, same-size, raised-quiet, raised-is, raised-turn, LowTo, low-start, low-yes, low-no, low-end}
 use Rattle.moves.proofs.raise_counts.Statement.{statement}
 use Rattle.moves.proofs.raise_counts.Tie as tie
 
 abbrev Inv-loop : tie.InvT-loop
-Inv-loop rack₀ v i bar low₀ at₀ rack low at =
-    let s = read rack₀ in RowCounted s (raisedCounts s i v) v rack at × Says low (LowTo s i v (reached at))
+Inv-loop rack₀ v i bar under₀ at₀ rack under at =
+    let s = read low rack₀ in RowCounted low s (raisedCounts s i v) v rack at × Says under (LowTo s i v (reached (low .most) at))
 
 abbrev μ-loop : tie.MeasureT-loop
-μ-loop rack₀ v i bar low₀ at₀ rack low at = 256 - reached at
+μ-loop rack₀ v i bar under₀ at₀ rack under at = low .most - reached (low .most) at
 
 walk : (d : tie.Start Inv-loop μ-loop)
-    → Walk (d .args .rack .now) (raisedCounts (read (d .args .rack .now)) (d .args .i) (d .args .v)) (d .args .v)
+    → Walk low (d .args .rack .now) (raisedCounts (read low (d .args .rack .now)) (d .args .i) (d .args .v)) (d .args .v)
 walk d = record {
   held = d .pre .0;
   inside = d .pre .1 .0 .0;
-  quiet = raised-quiet (read (d .args .rack .now)) (d .args .i) (d .args .v);
+  quiet = raised-quiet (read low (d .args .rack .now)) (d .args .i) (d .args .v);
 }
 
 -- where the function begins
@@ -43,23 +46,23 @@ abbrev turn : tie.After-place Inv-loop μ-loop → tie.At-loop Inv-loop μ-loop
 turn c = c .before .before .before
 
 abbrev state : tie.At-loop Inv-loop μ-loop → State
-state at = read (begin at .args .rack .now)
+state at = read low (begin at .args .rack .now)
 
-level : (at : tie.At-loop Inv-loop μ-loop) → begin at .args .i < 4
+level : (at : tie.At-loop Inv-loop μ-loop) → begin at .args .i < low .levels
 unfolding base
 level at = omega arith
 
-sized : (at : tie.At-loop Inv-loop μ-loop) → Sized (at .loop .rack)
+sized : (at : tie.At-loop Inv-loop μ-loop) → Sized low (at .loop .rack)
 sized at = w-sized (walk (begin at)) (at .loop .inv .0)
 
 some : (c : tie.Then1 Inv-loop μ-loop) → 0 < c .before .before .loop .at .rest
 some c = omega (arith, c .if1 .taken)
 
 -- what holds in a turn
-place : (c : tie.After-place Inv-loop μ-loop) → c .place .result ≡ reached (turn c .loop .at)
+place : (c : tie.After-place Inv-loop μ-loop) → c .place .result ≡ reached (low .most) (turn c .loop .at)
 place c = w-reached (walk (begin (turn c))) (turn c .loop .inv .0) (some (c .before)) (c .place .ensures)
 
-small : (c : tie.After-place Inv-loop μ-loop) → c .place .result < 256
+small : (c : tie.After-place Inv-loop μ-loop) → c .place .result < low .most
 small c = w-small (walk (begin (turn c))) (turn c .loop .inv .0) (some (c .before)) (c .place .ensures)
 
 owned : (c : tie.After-place Inv-loop μ-loop) → T (state (turn c) .owns (begin (turn c) .args .v) (c .place .result))
@@ -73,7 +76,7 @@ raised c =
     let p = c .before .before in
     let a = begin (turn p) .args in
     let l = turn p .loop in
-    raised-is (state (turn p)) (a .i) (a .v) (l .rack) (l .at) (l .inv .0) (p .place .result) (c .phi .result) (place p) (small p) (level (turn p))
+    raised-is (state (turn p)) (begin (turn p) .pre .0 .proper) (a .i) (a .v) (l .rack) (l .at) (l .inv .0) (p .place .result) (c .phi .result) (place p) (small p) (level (turn p))
     (owned p) (c .phi .ensures)
 
 turned : (c : tie.After-set-phi Inv-loop μ-loop)
@@ -86,13 +89,13 @@ turned c =
     let p = got .before .before in
     let a = begin (turn p) .args in
     let l = turn p .loop in
-    raised-turn (state (turn p)) (a .i) (a .v) (l .rack) (l .at) (l .inv .0) (p .place .result) (c .set-phi .last .0) (got .phi .result) (place p)
+    raised-turn (state (turn p)) (begin (turn p) .pre .0 .proper) (a .i) (a .v) (l .rack) (l .at) (l .inv .0) (p .place .result) (c .set-phi .last .0) (got .phi .result) (place p)
     (small p) (level (turn p)) (raised got) (c .set-phi .ensures)
 
 -- after either branch `low` speaks of w too
 lows : (c : tie.After-next Inv-loop μ-loop)
     → let at = turn (c .before .before .before .before .before .before .before .before .before) in
-    let a = begin at .args in Says (c .before .before .if2 .low) (LowTo (state at) (a .i) (a .v) (reached (c .next .result)))
+    let a = begin at .args in Says (c .before .before .if2 .low) (LowTo (state at) (a .i) (a .v) (reached (low .most) (c .next .result)))
 lows c =
     let put = c .before .before .before .before .before in
     let got = put .before .before in
@@ -104,9 +107,9 @@ lows c =
     let r = raised got in
     let next = came-next (walk (begin at)) (at .loop .inv .0) (some (p .before)) (p .place .ensures) (turned put) (c .next .ensures) in
     ⊎-elim
-    (λ k. says-is (k .1) (low-no (state at) (a .i) (a .v) (reached (at .loop .at)) w (place p) (at .loop .inv .1) next (owned p)
+    (λ k. says-is (k .1) (low-no (state at) (a .i) (a .v) (reached (low .most) (at .loop .at)) w (place p) (at .loop .inv .1) next (owned p)
     (omega (arith, k .0 .taken))))
-    (λ k. says-is (k .1) (low-yes (state at) (a .i) (a .v) (reached (at .loop .at)) w (place p) (at .loop .inv .1) next
+    (λ k. says-is (k .1) (low-yes (state at) (a .i) (a .v) (reached (low .most) (at .loop .at)) w (place p) (at .loop .inv .1) next
     (omega (arith, k .0 .left))))
     (c .before .before .if2 .came)
 
@@ -120,7 +123,7 @@ loop-holds : tie.Need-loop-holds Inv-loop μ-loop
 loop-holds c =
     let d = c .before .before .before .before in
     let a = d .args in
-    (row-starts (walk d) (c .first .ensures), low-start (read (a .rack .now)) (a .i) (a .v) (came-first (walk d) (c .first .ensures)))
+    (row-starts (walk d) (c .first .ensures), low-start (read low (a .rack .now)) (a .i) (a .v) (came-first (walk d) (c .first .ensures)))
 
 place-requires : tie.Need-place-requires Inv-loop μ-loop
 place-requires c κs = (some c, c .before .before .loop .inv .0 .here (some c) .inside)
@@ -143,7 +146,7 @@ next-requires : tie.Need-next-requires Inv-loop μ-loop
 next-requires c κs =
     let put = c .before .before .before .before in
     let p = put .before .before .before .before in (
-      counted-sized (state (turn p)) _ (put .set-phi .last .0) (turned put),
+      counted-sized (state (turn p)) (begin (turn p) .pre .0 .proper) _ (put .set-phi .last .0) (turned put),
       (u-small (walk (begin (turn p))), (some (p .before), turn p .loop .inv .0 .here (some (p .before)) .inside)),
     )
 
@@ -151,7 +154,7 @@ loop-less : tie.Need-loop-less Inv-loop μ-loop
 loop-less c =
     let p = c .before .before .before .before .before .before .before .before .before in
     let here = turn p .loop .inv .0 .here (some (p .before)) in
-    omega (arith, small p, place p, further-less (some (p .before)) here (c .next .ensures))
+    omega (arith, small p, place p, further-less (row-whole low-good) (some (p .before)) here (c .next .ensures))
 
 loop-again : tie.Need-loop-again Inv-loop μ-loop
 loop-again c =
@@ -167,8 +170,8 @@ returns c =
     let at = c .before .before in
     let d = begin at in
     let l = at .loop in
-    let low = low-end (state at) (d .args .i) (d .args .v) (d .pre .0 .proper) (l .at) (c .if1 .left) (l .inv .1) in
-    (row-ends (walk d) (l .inv .0) (c .if1 .left), low)
+    let under = low-end (state at) (d .pre .0 .proper) (d .args .i) (d .args .v) (l .at) (c .if1 .left) (l .inv .1) in
+    (row-ends (walk d) (l .inv .0) (c .if1 .left), under)
 
 pub raise-counts-spec : {M : Type 1} → statement M
 raise-counts-spec =

@@ -2,6 +2,7 @@
 use mathlib.Core.Path.{_≡_, sym, ap, _∙_, subst}
 use Prim.Native.Nat.{suc, _≤_, _<_}
 use borrow.Author.Needs.{needs}
+use Rattle.model.specs.Shape.{low}
 use Rattle.model.specs.State.{base, State}
 use Rattle.model.specs.Bytes.{read, write}
 use Rattle.model.specs.Change.{reown}
@@ -20,11 +21,11 @@ enter-requires c κs =
     let took = c .before .before .before in
     let a = took .before .before .before .args in
     let p = took .before .before .before .pre in
-    let s = read (a .rack .now) in
+    let s = read low (a .rack .now) in
     let t = tookOver (a .i) (a .u) s in
     let bs = took .take-over .last .0 in
     let q = took-proper s (p .0 .proper) (a .i) (a .u) (p .1 .0 .0) in
-    let r : t ≡ read bs = sym (reads-as bs t (took .take-over .ensures) q) in (
+    let r : t ≡ read low bs = sym (reads-as bs t (took .take-over .ensures) q) in (
       held-of bs t (took .take-over .ensures) q,
       (
         subst (λ (x : State). (a .u < x .n) × (x .rank (a .u) ≤ a .i) × (a .i ≤ base .top)) r (p .1 .0),
@@ -40,10 +41,10 @@ returns c =
     let took = c .before .before .before .before .before .before in
     let a = took .before .before .before .args in
     let p = took .before .before .before .pre in
-    let s = read (a .rack .now) in
+    let s = read low (a .rack .now) in
     let t = tookOver (a .i) (a .u) s in
     let q = took-proper s (p .0 .proper) (a .i) (a .u) (p .1 .0 .0) in
-    let r : read (took .take-over .last .0) ≡ t = reads-as _ t (took .take-over .ensures) q in
+    let r : read low (took .take-over .last .0) ≡ t = reads-as _ t (took .take-over .ensures) q in
     c .before .before .enter .ensures ∙ ap (λ (x : State). write (ranked (a .u) (suc (a .i)) x)) r
     ∙ ap write (rise-halves s (p .0 .proper) (a .i) (a .u))
 

@@ -5,13 +5,14 @@ use Prim.Native.Nat.{_+_, _-_, _≤_}
 use native.Mathlib.Omega.{arith}
 use lib.ListN.{length}
 use borrow.Author.Needs.{needs}
-use Rattle.moves.specs.Counts.{step, CanStep, recounted}
-use Rattle.moves.proofs.CountSteps.{step-wider, step-byte, next-count, next-level}
+use Rattle.model.specs.Shape.{low}
+use Rattle.moves.specs.Counts.{step, CanStep, largestCount, recounted}
+use Rattle.moves.proofs.CountSteps.{step-wider, step-below, next-count, next-level}
 use Rattle.moves.proofs.step_counts.Statement.{statement}
 use Rattle.moves.proofs.step_counts.Tie as tie
 
 abbrev Inv-loop : tie.InvT-loop
-Inv-loop rack₀ w j k more x₀ rack x = (x ≤ k) × ((length rack ≡ length rack₀) × (rack ≡ recounted (step more) rack₀ w j x))
+Inv-loop rack₀ w j k more x₀ rack x = (x ≤ k) × ((length rack ≡ length rack₀) × (rack ≡ recounted low (step more) rack₀ w j x))
 
 abbrev μ-loop : tie.MeasureT-loop
 μ-loop rack₀ w j k more x₀ rack x = k - x
@@ -20,14 +21,14 @@ abbrev μ-loop : tie.MeasureT-loop
 abbrev more-of : tie.After-phi Inv-loop μ-loop → Bool
 more-of c = c .before .before .before .before .before .args .more
 
-room : (c : tie.After-phi Inv-loop μ-loop) → CanStep (more-of c) 255 (c .phi .result)
+room : (c : tie.After-phi Inv-loop μ-loop) → CanStep (more-of c) (largestCount low) (c .phi .result)
 room c =
     let at = c .before .before .before in
     let d = at .before .before in
     let a = d .args in
     let l = at .loop in
-    let e = c .phi .ensures ∙ next-count (step (a .more)) (a .rack .now) (a .w) (a .j) (l .x) (l .inv .1 .1) in
-    subst (CanStep (a .more) 255) (sym e) (d .pre .1 .1 (a .j + l .x) (omega arith) (omega arith))
+    let e = c .phi .ensures ∙ next-count low (step (a .more)) (a .rack .now) (a .w) (a .j) (l .x) (l .inv .1 .1) in
+    subst (CanStep (a .more) (largestCount low)) (sym e) (d .pre .1 .1 (a .j + l .x) (omega arith) (omega arith))
 
 loop-holds : tie.Need-loop-holds Inv-loop μ-loop
 unfolding recounted
@@ -46,12 +47,12 @@ cast-stepped : tie.Need-cast-stepped Inv-loop μ-loop
 cast-stepped c = search needs
 
 stepped-requires : tie.Need-stepped-requires Inv-loop μ-loop
-stepped-requires c κs = let p = c .before in step-wider (more-of p) (p .phi .result) (room p)
+stepped-requires c κs = let p = c .before in step-wider (more-of p) (p .phi .result) (omega arith) (room p)
 
 cast-set-phi : tie.Need-cast-set-phi Inv-loop μ-loop
 cast-set-phi c =
     let p = c .before .before in
-    omega (arith, c .stepped .ensures, step-byte (more-of p) (p .phi .result) (omega arith) (room p))
+    omega (arith, c .stepped .ensures, step-below (more-of p) 256 (p .phi .result) (omega arith) (room p))
 
 set-phi-requires : tie.Need-set-phi-requires Inv-loop μ-loop
 set-phi-requires c κs = search needs
@@ -70,7 +71,7 @@ loop-again c =
     let l = c .before .before .before .before .before .before .before .before .loop in
     let a = c .before .before .before .before .before .before .before .before .before .before .args in
     let e = new .ensures ∙ ap (step (a .more)) (got .ensures) in
-    let more = next-level (step (a .more)) (a .rack .now) (a .w) (a .j) (l .x) (l .inv .1 .1) _ _ refl e (put .ensures) in
+    let more = next-level low (step (a .more)) (a .rack .now) (a .w) (a .j) (l .x) (l .inv .1 .1) _ _ refl e (put .ensures) in
     (omega arith, (omega (arith, put .kept .0), more))
 
 same-length : tie.Need-same-length Inv-loop μ-loop
@@ -81,7 +82,7 @@ returns c =
     let a = c .before .before .before .args in
     let l = c .before .loop in
     let e : l .x ≡ a .k = omega arith in
-    l .inv .1 .1 ∙ ap (recounted (step (a .more)) (a .rack .now) (a .w) (a .j)) e
+    l .inv .1 .1 ∙ ap (recounted low (step (a .more)) (a .rack .now) (a .w) (a .j)) e
 
 pub step-counts-spec : {M : Type 1} → statement M
 step-counts-spec =

@@ -9,6 +9,7 @@ use native.Mathlib.Numerals.{add-one}
 use native.Mathlib.Omega.{arith}
 use lib.Dec.{T}
 use Rattle.model.specs.Counting.{count}
+use Rattle.model.specs.Shape.{low}
 use Rattle.model.specs.State.{base, State}
 use Rattle.model.specs.Bytes.{read}
 use Rattle.model.proofs.Tests.{true-T}
@@ -20,25 +21,25 @@ use Rattle.moves.proofs.take_over.Statement.{statement}
 use Rattle.moves.proofs.take_over.Tie as tie
 
 abbrev Inv-loop : tie.InvT-loop
-Inv-loop rack₀ u i missing₀ w₀ rack missing w = Taking (read rack₀) i u rack missing w
+Inv-loop rack₀ u i missing₀ w₀ rack missing w = Taking (read low rack₀) i u rack missing w
 
 abbrev μ-loop : tie.MeasureT-loop
-μ-loop rack₀ u i missing₀ w₀ rack missing w = read rack₀ .n - w
+μ-loop rack₀ u i missing₀ w₀ rack missing w = read low rack₀ .n - w
 
 -- the function's entry, the state that its bytes hold, and u
 abbrev entry : tie.At-loop Inv-loop μ-loop → tie.Start Inv-loop μ-loop
 entry c = c .before .before .before .before .before .before
 
 abbrev state : tie.Start Inv-loop μ-loop → State
-state s = read (s .args .rack .now)
+state s = read low (s .args .rack .now)
 
-riser : (s : tie.Start Inv-loop μ-loop) → CanRise (state s) (s .args .i) (s .args .u)
+riser : (s : tie.Start Inv-loop μ-loop) → CanRise low (state s) (s .args .i) (s .args .u)
 riser s = record { proper = s .pre .0 .proper; within = s .pre .1 .0 .0; low = s .pre .1 .1 }
 
-u-small : (s : tie.Start Inv-loop μ-loop) → s .args .u < 256
+u-small : (s : tie.Start Inv-loop μ-loop) → s .args .u < low .most
 u-small s = held-small (s .pre .0) (s .args .u) (s .pre .1 .0 .0)
 
-i-small : (s : tie.Start Inv-loop μ-loop) → s .args .i < 4
+i-small : (s : tie.Start Inv-loop μ-loop) → s .args .i < low .levels
 unfolding base
 i-small s = omega (arith, s .pre .1 .0 .2)
 
@@ -62,10 +63,11 @@ counted c =
 inside : (c : tie.In-loop Inv-loop μ-loop) → c .before .loop .w < state (entry (c .before)) .n
 inside c = taking-inside (riser (entry (c .before))) (c .before .loop .inv) (omega (arith, c .loop-test .taken))
 
-w-small : (c : tie.In-loop Inv-loop μ-loop) → c .before .loop .w < 256
+w-small : (c : tie.In-loop Inv-loop μ-loop) → c .before .loop .w < low .most
 w-small c = held-small (entry (c .before) .pre .0) (c .before .loop .w) (inside c)
 
-sized : (c : tie.At-loop Inv-loop μ-loop) → Sized (c .loop .rack)
+sized : (c : tie.At-loop Inv-loop μ-loop) → Sized low (c .loop .rack)
+unfolding read
 sized c = taking-sized (riser (entry c)) (c .loop .inv)
 
 -- what was read of w
@@ -76,10 +78,12 @@ abbrev head : tie.After-owns Inv-loop μ-loop → tie.At-loop Inv-loop μ-loop
 head c = c .before .before .before
 
 owner : (c : tie.After-owns Inv-loop μ-loop) → c .owns .result ≡ state (entry (head c)) .owns (head c .loop .w) (entry (head c) .args .u)
+unfolding read
 owner c = c .owns .ensures ∙ taking-owns (riser (entry (head c))) (head c .loop .inv) (inside (turn c))
 
 level : (c : tie.After-rank Inv-loop μ-loop)
     → c .rank .result ≡ state (entry (head (c .before .before .before))) .rank (head (c .before .before .before) .loop .w)
+unfolding read
 level c =
     let d = c .before .before .before in
     c .rank .ensures ∙ taking-rank (riser (entry (head d))) (head d .loop .inv) (head d .loop .w) (w-small (turn d))
@@ -89,6 +93,7 @@ abbrev Done : tie.At-loop Inv-loop μ-loop → List ℕ → ℕ → ℕ → Type
 Done c bs missing k = Taking (state (entry c)) (entry c .args .i) (entry c .args .u) bs missing k
 
 done : (c : tie.Joined1 Inv-loop μ-loop) → Done (head (c .before)) (c .if1 .rack) (c .if1 .missing) (suc (head (c .before) .loop .w))
+unfolding read
 done c =
     let q = riser (entry (head (c .before))) in
     let t = head (c .before) .loop .inv in

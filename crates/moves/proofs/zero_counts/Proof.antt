@@ -4,13 +4,14 @@ use Prim.Native.Nat.{_-_, _≤_}
 use native.Mathlib.Omega.{arith}
 use lib.ListN.{length}
 use borrow.Author.Needs.{needs}
+use Rattle.model.specs.Shape.{low}
 use Rattle.moves.specs.Counts.{recounted, none}
 use Rattle.moves.proofs.CountSteps.{next-level}
 use Rattle.moves.proofs.zero_counts.Statement.{statement}
 use Rattle.moves.proofs.zero_counts.Tie as tie
 
 abbrev Inv-loop : tie.InvT-loop
-Inv-loop rack₀ u k j₀ rack j = (j ≤ k) × ((length rack ≡ length rack₀) × (rack ≡ recounted none rack₀ u 0 j))
+Inv-loop rack₀ u k j₀ rack j = (j ≤ k) × ((length rack ≡ length rack₀) × (rack ≡ recounted low none rack₀ u 0 j))
 
 abbrev μ-loop : tie.MeasureT-loop
 μ-loop rack₀ u k j₀ rack j = k - j
@@ -33,7 +34,7 @@ loop-again c =
     let put = c .before .before .set-phi in
     let l = c .before .before .before .before .before .loop in
     let a = c .before .before .before .before .before .before .before .args in
-    let more = next-level none (a .rack .now) (a .u) 0 (l .j) (l .inv .1 .1) _ _ (omega arith) refl (put .ensures) in
+    let more = next-level low none (a .rack .now) (a .u) 0 (l .j) (l .inv .1 .1) _ _ (omega arith) refl (put .ensures) in
     (omega arith, (omega (arith, put .kept .0), more))
 
 same-length : tie.Need-same-length Inv-loop μ-loop
@@ -44,7 +45,7 @@ returns c =
     let a = c .before .before .before .args in
     let l = c .before .loop in
     let e : l .j ≡ a .k = omega arith in
-    l .inv .1 .1 ∙ ap (recounted none (a .rack .now) (a .u) 0) e
+    l .inv .1 .1 ∙ ap (recounted low none (a .rack .now) (a .u) 0) e
 
 pub zero-counts-spec : {M : Type 1} → statement M
 zero-counts-spec =

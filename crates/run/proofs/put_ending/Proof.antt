@@ -2,6 +2,7 @@
 use Prim.Native.Nat.{_+_, _≤_}
 use native.Mathlib.Omega.{arith}
 use lib.ListN.{length}
+use Rattle.model.specs.Shape.{low}
 use Rattle.model.specs.State.{State}
 use Rattle.model.specs.Bytes.{read}
 use Rattle.text.specs.Rooms.{endRoom}
@@ -10,6 +11,7 @@ use Rattle.trace.proofs.Bound.{Small, pairs-most, end-most}
 use Rattle.trace.proofs.RecordFits.{valid-small}
 use Rattle.run.specs.Recording.{endingText}
 use borrow.Author.Needs.{needs}
+use Rattle.run.proofs.Turns.{sounded-valid}
 use Rattle.run.proofs.put_ending.Statement.{statement}
 use Rattle.run.proofs.put_ending.Tie as tie
 
@@ -21,11 +23,11 @@ abbrev pairs-lines : tie.After-slice-known3 → tie.After-put-pairs
 pairs-lines c = c .before .before .before .before .before .before
 
 abbrev state : tie.After-put-pairs → State
-state c = read (lines-start c .args .rack .now)
+state c = read low (lines-start c .args .rack .now)
 
 -- a valid state's lines are short
 small : (c : tie.After-put-pairs) → Small (state c)
-small c = valid-small _ (lines-start c .pre .0 .valid)
+small c = valid-small _ (sounded-valid (lines-start c .pre .0))
 
 lines-few : (c : tie.After-put-pairs) → c .put-pairs .result + endRoom ≤ length (lines-start c .args .out .now)
 lines-few c = omega (arith, lines-start c .pre .1, pairs-most (state c) (small c), c .put-pairs .ensures .count)

@@ -3,13 +3,14 @@ use mathlib.Core.Path.{_≡_, ap₂, _∙_}
 use mathlib.Core.List.{List}
 use Prim.Native.Nat.{ℕ, _*_, _/_, _%_}
 use native.Mathlib.Omega.{arith}
+use Rattle.model.specs.Shape.{low}
 use Rattle.model.specs.State.{State, edges, pairs}
 use Rattle.model.specs.Bytes.{read}
 use Rattle.model.specs.Record.{mean, endText, endLine}
 use Rattle.record.specs.Line.{meanOf}
 use Rattle.text.specs.Writing.{Put}
 use Rattle.text.proofs.Over.{put-as}
-use Rattle.moves.proofs.Held.{held-sized, held-size, held-edges}
+use Rattle.moves.proofs.Held.{held-sized, held-size, held-edges, held-few}
 use Rattle.changes.proofs.Wholes.{sounded-held}
 use borrow.Author.Needs.{needs}
 use Rattle.run.proofs.put_last.Statement.{statement}
@@ -20,7 +21,7 @@ abbrev size-start : tie.After-size → tie.Start
 size-start c = c .before .before .before .before
 
 abbrev state : tie.After-size → State
-state c = read (size-start c .args .rack .now)
+state c = read low (size-start c .args .rack .now)
 
 -- what was read of the rack
 size-is : (c : tie.After-size) → c .size .result ≡ state c .n
@@ -49,7 +50,7 @@ size-requires : tie.Need-size-requires
 size-requires c κs = held-sized (sounded-held _ (c .before .before .before .pre .0))
 
 cast-n : tie.Need-cast-n
-cast-n c = omega (arith, size-is c, size-start c .pre .0 .valid .few)
+cast-n c = omega (arith, size-is c, held-few (sounded-held _ (size-start c .pre .0)))
 
 edges-requires : tie.Need-edges-requires
 edges-requires c κs = held-sized (sounded-held _ (size-start c .pre .0))

@@ -3,10 +3,11 @@ use mathlib.Core.Path.{refl, sym, _∙_}
 use mathlib.Core.Logic.{_≢_}
 use Prim.Native.Nat.{_<_}
 use native.Mathlib.Omega.{arith}
+use Rattle.model.specs.Shape.{low}
 use Rattle.model.specs.Bytes.{mateAt}
 use Rattle.layout.specs.Setters.{Sized}
 use Rattle.text.proofs.Over.{put-as, put-none}
-use Rattle.moves.proofs.Held.{held-sized}
+use Rattle.moves.proofs.Held.{held-sized, held-small}
 use Rattle.changes.proofs.Wholes.{sounded-held}
 use Rattle.run.proofs.Pairs.{part-free, part-upper, part-rank, put-part}
 use borrow.Author.Needs.{needs}
@@ -24,14 +25,14 @@ abbrev end-rank : tie.After-slice-known2 → tie.After-rank
 end-rank c = c .before .before .before .before
 
 -- what is read of v is in the rack
-small : (d : tie.Start) → Sized (d .args .rack .now) × (d .args .v < 256)
-small d = (held-sized (sounded-held _ (d .pre .0)), omega (arith, d .pre .1 .0, d .pre .0 .valid .few))
+small : (d : tie.Start) → Sized low (d .args .rack .now) × (d .args .v < low .most)
+small d = let h = sounded-held _ (d .pre .0) in (held-sized h, held-small h _ (d .pre .1 .0))
 
 -- v is the lower vertex of a pair
-mated : (c : tie.Else2) → mateAt (mate-start (else-mate c) .args .rack .now) (mate-start (else-mate c) .args .v) ≢ 65535
+mated : (c : tie.Else2) → mateAt low (mate-start (else-mate c) .args .rack .now) (mate-start (else-mate c) .args .v) ≢ 65535
 mated c z = c .before .if1 .left (else-mate c .mate .ensures ∙ z)
 
-lower : (c : tie.Else2) → let a = mate-start (else-mate c) .args in a .v < mateAt (a .rack .now) (a .v)
+lower : (c : tie.Else2) → let a = mate-start (else-mate c) .args in a .v < mateAt low (a .rack .now) (a .v)
 lower c = omega (arith, else-mate c .mate .ensures, c .if2 .left)
 
 mate-requires : tie.Need-mate-requires

@@ -3,10 +3,11 @@ use mathlib.Core.Path.{_≡_, _∙_}
 use Prim.Native.Nat.{_+_, _-_, _≤_, _<_}
 use native.Mathlib.Omega.{arith}
 use lib.ListN.{length}
+use Rattle.model.specs.Shape.{low}
 use Rattle.model.specs.Bytes.{read}
 use Rattle.text.specs.Rooms.{pairRoom}
 use Rattle.text.proofs.Over.{length-part}
-use Rattle.moves.proofs.Held.{held-sized, held-size}
+use Rattle.moves.proofs.Held.{held-sized, held-size, held-few}
 use Rattle.changes.proofs.Wholes.{sounded-held}
 use Rattle.run.proofs.Pairs.{Listed, listed-start, listed-kept, listed-room, listed-turn, listed-end}
 use borrow.Author.Needs.{needs}
@@ -17,7 +18,7 @@ abbrev Inv-loop : tie.InvT-loop
 Inv-loop rack out₀ n at₀ v₀ out at v = Listed rack out₀ out at v
 
 abbrev μ-loop : tie.MeasureT-loop
-μ-loop rack out₀ n at₀ v₀ out at v = read rack .n - v
+μ-loop rack out₀ n at₀ v₀ out at v = read low rack .n - v
 
 -- the places, each from an earlier one
 abbrev loop-start : tie.At-loop Inv-loop μ-loop → tie.Start Inv-loop μ-loop
@@ -27,11 +28,11 @@ abbrev turn : tie.After-slice-known2 Inv-loop μ-loop → tie.In-loop Inv-loop �
 turn c = c .before .before .before .before
 
 -- the size that was read is the rack's
-size-is : (l : tie.At-loop Inv-loop μ-loop) → l .before .size .result ≡ read (loop-start l .args .rack .now) .n
+size-is : (l : tie.At-loop Inv-loop μ-loop) → l .before .size .result ≡ read low (loop-start l .args .rack .now) .n
 size-is l = l .before .size .ensures ∙ held-size (sounded-held _ (loop-start l .pre .0))
 
 -- the vertex of this turn is one of the rack's, and there is room for its line
-inside : (c : tie.In-loop Inv-loop μ-loop) → c .before .loop .v < read (loop-start (c .before) .args .rack .now) .n
+inside : (c : tie.In-loop Inv-loop μ-loop) → c .before .loop .v < read low (loop-start (c .before) .args .rack .now) .n
 inside c = omega (arith, c .loop-test .taken, size-is (c .before))
 
 room : (c : tie.In-loop Inv-loop μ-loop) → c .before .loop .at + pairRoom ≤ length (c .before .loop .out)
@@ -66,7 +67,7 @@ loop-again c =
 add-at : tie.Need-add-at Inv-loop μ-loop
 add-at c =
     let s = loop-start (turn c .before) in
-    record { fits = omega (arith, loop-again c .few, loop-again c .inside, s .pre .0 .valid .few) }
+    record { fits = omega (arith, loop-again c .few, loop-again c .inside, held-few (sounded-held _ (s .pre .0))) }
 
 add-v : tie.Need-add-v Inv-loop μ-loop
 add-v c = search needs

@@ -3,7 +3,8 @@ use mathlib.Core.Path.{_≡_}
 use Prim.Native.Nat.{_+_, _≤_}
 use native.Mathlib.Omega.{arith}
 use lib.ListN.{length}
-use Rattle.model.specs.State.{empty}
+use Rattle.model.specs.Shape.{low}
+use Rattle.model.specs.State.{lowKind, empty}
 use Rattle.model.specs.Bytes.{read}
 use Rattle.text.proofs.Over.{put-kept}
 use Rattle.changes.specs.Sounded.{Sounded}
@@ -42,7 +43,7 @@ part-put-changes-end : tie.Need-part-put-changes-end
 part-put-changes-end c = search needs
 
 -- the rack that comes in is the one just made
-made : (d : tie.Start) → Sounded (d .args .rack .now) × (read (d .args .rack .now) ≡ empty (d .args .n))
+made : (d : tie.Start) → Sounded low (d .args .rack .now) × (read low (d .args .rack .now) ≡ empty lowKind (d .args .n))
 made d = fresh _ _ (d .pre .0 .0) (d .pre .0 .1)
 
 put-changes-requires : tie.Need-put-changes-requires

@@ -2,6 +2,7 @@
 use mathlib.Core.Path.{_≡_, sym, _∙_, subst}
 use mathlib.Core.Bool.{true}
 use native.Mathlib.Omega.{arith}
+use Rattle.model.specs.Shape.{low}
 use Rattle.model.specs.Calls.{sized}
 use Rattle.model.specs.Run.{rack-length, text-long, space-short, bad-line}
 use Rattle.engine.proofs.Numbers.{off, on}
@@ -31,7 +32,7 @@ abbrev call-fits : tie.After-taken-arg2 → tie.After-n
 call-fits c = c .before .before .before .before .before
 
 -- what holds where the lengths are tested
-sized-is : (c : tie.Else1) → sized (else-start c .args .rack .now) ≡ true
+sized-is : (c : tie.Else1) → sized low (else-start c .args .rack .now) ≡ true
 sized-is c = sym (c .before .sized .ensures) ∙ on _ (c .if1 .left)
 
 lent : (c : tie.Else3) → let a = else-start (c .before .before) .args in Lent (a .rack .now) (a .text .now) (a .space .now)

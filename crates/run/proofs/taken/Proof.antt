@@ -2,7 +2,8 @@
 use mathlib.Core.Path.{_≡_, refl}
 use mathlib.Core.Bool.{true}
 use native.Mathlib.Omega.{arith}
-use Rattle.model.specs.State.{empty}
+use Rattle.model.specs.Shape.{low}
+use Rattle.model.specs.State.{lowKind, empty}
 use Rattle.model.specs.Bytes.{write}
 use Rattle.model.specs.Sound.{sizeGood}
 use Rattle.run.proofs.Whole.{made-none, made-new, took-none, took-record}
@@ -22,7 +23,7 @@ record-else c = c .before .before .before
 
 -- the rack was made
 rack-made : (c : tie.Else1) → let n = make-start (else-make c) .args .n in
-    (sizeGood n ≡ true) × (else-make c .make .last .0 ≡ write (empty n))
+    (sizeGood low n ≡ true) × (else-make c .make .last .0 ≡ write (empty lowKind n))
 rack-made c = let m = else-make c in made-new _ _ (make-start m .pre .0) (m .make .ensures) (c .if1 .left)
 
 make-requires : tie.Need-make-requires

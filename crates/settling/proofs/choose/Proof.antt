@@ -4,6 +4,7 @@ use Prim.Native.Nat.{ℕ, _%_, _<_}
 use native.Mathlib.Omega.{arith}
 use native.Mathlib.Nat.{mod-lt}
 use borrow.Author.Needs.{needs}
+use Rattle.model.specs.Shape.{low}
 use Rattle.layout.specs.Rows.{NthOwned}
 use Rattle.moves.proofs.Held.{held-sized, held-small}
 use Rattle.settling.proofs.Entries.{row-degree, row-chosen}
@@ -41,7 +42,7 @@ returns c =
     let a = c .before .before .before .before .before .args in
     let p = c .before .before .before .before .before .pre in
     row-chosen (a .rack .now) (p .0) (a .i) (a .u) (p .1 .0) (p .1 .1) (a .words .now) (a .tally) (a .k) (c .nth-owned .result) (p .1 .3)
-    (subst (λ (x : ℕ). NthOwned (a .rack .now) (a .u) (x % a .k) (c .nth-owned .result)) (c .before .nth-word .ensures) (c .nth-owned .ensures))
+    (subst (λ (x : ℕ). NthOwned low (a .rack .now) (a .u) (x % a .k) (c .nth-owned .result)) (c .before .nth-word .ensures) (c .nth-owned .ensures))
 
 pub choose-spec : {M : Type 1} → statement M
 choose-spec =

@@ -2,6 +2,7 @@
 use mathlib.Core.Path.{sym}
 use native.Mathlib.Omega.{arith}
 use borrow.Author.Needs.{needs}
+use Rattle.model.specs.Shape.{low}
 use Rattle.settling.proofs.Holding.{but-part}
 use Rattle.settling.proofs.Written.{Drawing, drawing-of, drawing-other, lifted-pairs, drawn-left}
 use Rattle.settling.proofs.draw.Statement.{statement}
@@ -10,7 +11,7 @@ use Rattle.settling.proofs.draw.Tie as tie
 abbrev start : tie.After-choose → tie.Start
 start c = c .before .before .before .before .before
 
-drawing : (c : tie.After-choose) → Drawing (start c .args .rack .now) (start c .args .i) (start c .args .u) (c .choose .result)
+drawing : (c : tie.After-choose) → Drawing low (start c .args .rack .now) (start c .args .i) (start c .args .u) (c .choose .result)
 drawing c = let s = start c in drawing-of (s .pre .0 .0) (s .pre .0 .1) (s .pre .1 .0) (c .choose .ensures .1)
 
 choose-requires : tie.Need-choose-requires

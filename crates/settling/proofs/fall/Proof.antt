@@ -2,7 +2,9 @@
 use Prim.Native.Nat.{_≤_}
 use native.Mathlib.Omega.{arith}
 use borrow.Author.Needs.{needs}
+use Rattle.model.specs.Shape.{low}
 use Rattle.model.proofs.Tests.{true-T}
+use Rattle.moves.proofs.Held.{held-few}
 use Rattle.settling.specs.Settling.{takeLimit}
 use Rattle.settling.proofs.Holding.{but-place, holds-as}
 use Rattle.settling.proofs.Takes.{Fallen, fallen-scans, fallen-left, fallen-low}
@@ -29,13 +31,13 @@ rejoin-requires : tie.Need-rejoin-requires
 rejoin-requires c κs =
     let s = start (down c) in
     let f = s .pre .1 .0 in
-    (omega (arith, c .fell .ensures .2, but-place _ (s .pre .1 .1 .0) (f .inside)), omega (arith, f .inside, s .pre .0 .0 .proper .few))
+    (omega (arith, c .fell .ensures .2, but-place _ (s .pre .1 .1 .0) (f .inside)), omega (arith, f .inside, held-few (s .pre .0 .0)))
 
 -- v has fallen and has joined its new level
 fallen : (c : tie.After-rejoin) →
     let f = down (c .before) in
     let a = start f .args in
-    Fallen (a .rack .now) (a .queue .now) (c .before .fell .result) (a .i) (a .v) (a .k) (f .fall .last .0) (c .rejoin .last .0) (c .rejoin .result)
+    Fallen low (a .rack .now) (a .queue .now) (c .before .fell .result) (a .i) (a .v) (a .k) (f .fall .last .0) (c .rejoin .last .0) (c .rejoin .result)
 fallen c =
     let f = down (c .before) in
     let s = start f in
@@ -56,7 +58,7 @@ same-length-2 : tie.Need-same-length-2
 same-length-2 c = search needs
 
 -- there is room for the draws of a scan
-few : (c : tie.After-rejoin) → c .before .fell .result .draws ≤ takeLimit
+few : (c : tie.After-rejoin) → c .before .fell .result .draws ≤ takeLimit low
 few c = omega (arith, c .before .fell .ensures .0, start (down (c .before)) .pre .1 .1 .1 .draws)
 
 returns : tie.Need-returns

@@ -1,10 +1,11 @@
 -- `settling::lift` meets its contract. Assumes nothing.
 use borrow.Author.Needs.{needs}
+use Rattle.model.specs.Shape.{low}
 use Rattle.settling.proofs.Written.{Rising, parted-rises, parted-lifts}
 use Rattle.settling.proofs.lift.Statement.{statement}
 use Rattle.settling.proofs.lift.Tie as tie
 
-rising : (c : tie.Start) → Rising (c .args .rack .now) (c .args .i) (c .args .v)
+rising : (c : tie.Start) → Rising low (c .args .rack .now) (c .args .i) (c .args .v)
 rising c = record { held = c .pre .0 .0; ordered = c .pre .0 .1; inside = c .pre .1 .0 .0; low = c .pre .1 .0 .1; level = c .pre .1 .0 .2 }
 
 requeue-requires : tie.Need-requeue-requires

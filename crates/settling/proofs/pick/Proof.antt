@@ -6,6 +6,7 @@ use Prim.Native.Nat.{ℕ, suc, _-_, _≤_, _<_}
 use native.Mathlib.Omega.{arith}
 use lib.ListN.{length, getD, take}
 use borrow.Author.Needs.{needs}
+use Rattle.model.specs.Shape.{low}
 use Rattle.model.specs.State.{base}
 use Rattle.model.specs.Bytes.{read}
 use Rattle.model.proofs.Lists.{All-at, getD-mem}
@@ -16,13 +17,13 @@ use Rattle.settling.proofs.pick.Statement.{statement}
 use Rattle.settling.proofs.pick.Tie as tie
 
 abbrev Inv-loop : tie.InvT-loop
-Inv-loop rack queue k best₀ at₀ j₀ best at j = Best (read rack .rank) (take k queue) best at j × (j ≤ k)
+Inv-loop rack queue k best₀ at₀ j₀ best at j = Best (read low rack .rank) (take k queue) best at j × (j ≤ k)
 
 abbrev μ-loop : tie.MeasureT-loop
 μ-loop rack queue k best₀ at₀ j₀ best at j = k - j
 
 loop-holds : tie.Need-loop-holds Inv-loop μ-loop
-loop-holds c = let a = c .before .before .args in (best-none (read (a .rack .now) .rank) (take (a .k) (a .queue .now)), omega arith)
+loop-holds c = let a = c .before .before .args in (best-none (read low (a .rack .now) .rank) (take (a .k) (a .queue .now)), omega arith)
 
 -- where the function and where a turn begins
 abbrev start : tie.At-loop Inv-loop μ-loop → tie.Start Inv-loop μ-loop
@@ -39,12 +40,12 @@ entry c =
 
 inside : (c : tie.In-loop Inv-loop μ-loop) →
     let a = start (c .before) .args in
-    getD (a .queue .now) (c .before .loop .j) 0 < read (a .rack .now) .n
+    getD (a .queue .now) (c .before .loop .j) 0 < read low (a .rack .now) .n
 inside c =
     let s = start (c .before) in
     let l = take (s .args .k) (s .args .queue .now) in
-    subst (λ (v : ℕ). v < read (s .args .rack .now) .n) (entry c)
-    (All-at (λ v. v < read (s .args .rack .now) .n) l (s .pre .1 .1) _
+    subst (λ (v : ℕ). v < read low (s .args .rack .now) .n) (entry c)
+    (All-at (λ v. v < read low (s .args .rack .now) .n) l (s .pre .1 .1) _
     (getD-mem l (c .before .loop .j) (omega (arith, length-first (s .args .k) (s .args .queue .now) (s .pre .1 .0), c .loop-test .taken))))
 
 there : (c : tie.In-loop Inv-loop μ-loop) → c .before .loop .j < length (start (c .before) .args .queue .now)
@@ -73,11 +74,11 @@ loop-less c = omega (arith, c .before .before .before .loop-test .taken)
 ranked : (c : tie.After-rank Inv-loop μ-loop) →
     let l = c .before .before .before in
     let a = start l .args in
-    c .rank .result ≡ read (a .rack .now) .rank (getD (take (a .k) (a .queue .now)) (l .loop .j) 0)
+    c .rank .result ≡ read low (a .rack .now) .rank (getD (take (a .k) (a .queue .now)) (l .loop .j) 0)
 ranked c =
     let i = c .before .before in
     let s = start (i .before) in
-    c .rank .ensures ∙ held-rank (s .pre .0) _ (held-small (s .pre .0) _ (inside i)) ∙ ap (read (s .args .rack .now) .rank) (sym (entry i))
+    c .rank .ensures ∙ held-rank (s .pre .0) _ (held-small (s .pre .0) _ (inside i)) ∙ ap (read low (s .args .rack .now) .rank) (sym (entry i))
 
 loop-again : tie.Need-loop-again Inv-loop μ-loop
 loop-again c =
@@ -85,7 +86,7 @@ loop-again c =
     let i = r .before .before in
     let l = i .before in
     let a = start l .args in
-    let f = read (a .rack .now) .rank in
+    let f = read low (a .rack .now) .rank in
     let q = take (a .k) (a .queue .now) in (
       ⊎-elim
           (λ w. rw (w .1 ∙ ranked r, w .2 ∙ sym (entry i)) (best-more f q (l .loop .inv .0) (omega (arith, ranked r, w .0 .taken))))

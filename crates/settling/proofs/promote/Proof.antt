@@ -1,5 +1,6 @@
 -- `settling::promote` meets its contract. Assumes nothing.
 use borrow.Author.Needs.{needs}
+use Rattle.model.specs.Shape.{low}
 use Rattle.moves.proofs.Held.{held-sized, held-small}
 use Rattle.settling.proofs.Entries.{level-small}
 use Rattle.settling.proofs.Holding.{holds-part}
@@ -7,7 +8,7 @@ use Rattle.settling.proofs.Written.{Rising, lifted-draws, promoted-left
 use Rattle.settling.proofs.promote.Statement.{statement}
 use Rattle.settling.proofs.promote.Tie as tie
 
-rising : (c : tie.Start) → Rising (c .args .rack .now) (c .args .i) (c .args .u)
+rising : (c : tie.Start) → Rising low (c .args .rack .now) (c .args .i) (c .args .u)
 rising c = record { held = c .pre .0 .0; ordered = c .pre .0 .1; inside = c .pre .1 .0 .0; low = c .pre .1 .0 .1; level = c .pre .1 .0 .2 }
 
 -- the places, each from a later one
@@ -20,7 +21,7 @@ counted c = c .before .before .before
 phi-requires : tie.Need-phi-requires
 phi-requires c κs =
     let a = rising (c .before .before .before .before) in
-    (held-sized (a .held), (held-small (a .held) _ (a .inside), level-small _ (a .level)))
+    (held-sized (a .held), (held-small (a .held) _ (a .inside), level-small (a .held) _ (a .level)))
 
 cast-k : tie.Need-cast-k
 cast-k c = search needs

@@ -2,6 +2,7 @@
 use mathlib.Core.Path.{_≡_, _∙_}
 use native.Mathlib.Omega.{arith}
 use borrow.Author.Needs.{needs}
+use Rattle.model.specs.Shape.{low}
 use Rattle.model.specs.Bytes.{read}
 use Rattle.theory.specs.Waiting.{marks}
 use Rattle.moves.proofs.Held.{held-sized, held-small, held-rank}
@@ -41,10 +42,10 @@ returns c =
     let e = entry-paired (s .args .rack .now) (p .0 .0) (s .args .v) (p .0 .1) (m .mate .result) (m .mate .ensures)
     (λ z. omega (arith, z, t .if1 .taken)) in
     requeued-as (c .before .before .join .ensures)
-    (part-mated (marks (read (s .args .rack .now))) (s .args .v) _ (m .mate .result) (e .0) (e .1) (p .1 .room (e .0) .0))
+    (part-mated (marks (read low (s .args .rack .now))) (s .args .v) _ (m .mate .result) (e .0) (e .1) (p .1 .room (e .0) .0))
 
 -- v is free
-free : (c : tie.Else1) → let s = start (c .before) in read (s .args .rack .now) .mate (s .args .v) ≡ s .args .v
+free : (c : tie.Else1) → let s = start (c .before) in read low (s .args .rack .now) .mate (s .args .v) ≡ s .args .v
 free c =
     let m = c .before in
     let s = start m in
@@ -54,7 +55,7 @@ rank-requires : tie.Need-rank-requires
 rank-requires c κs = let p = start (c .before) .pre in (held-sized (p .0 .0), held-small (p .0 .0) _ (p .0 .1))
 
 -- the rank that was read
-ranked : (c : tie.After-rank) → let s = start (c .before .before) in c .rank .result ≡ read (s .args .rack .now) .rank (s .args .v)
+ranked : (c : tie.After-rank) → let s = start (c .before .before) in c .rank .result ≡ read low (s .args .rack .now) .rank (s .args .v)
 ranked c = let p = start (c .before .before) .pre in c .rank .ensures ∙ held-rank (p .0 .0) _ (held-small (p .0 .0) _ (p .0 .1))
 
 returns-2 : tie.Need-returns-2
@@ -62,7 +63,7 @@ returns-2 c =
     let r = c .before in
     let s = start (r .before .before) in
     requeued-as (requeued-none (s .pre .1 .within))
-    (part-low (marks (read (s .args .rack .now))) (s .args .v) _ (free (r .before)) (s .pre .1 .absent (omega (arith, ranked r, c .if2 .taken))))
+    (part-low (marks (read low (s .args .rack .now))) (s .args .v) _ (free (r .before)) (s .pre .1 .absent (omega (arith, ranked r, c .if2 .taken))))
 
 leave-requires : tie.Need-leave-requires
 leave-requires c κs =
@@ -77,7 +78,7 @@ returns-3 : tie.Need-returns-3
 returns-3 c =
     let e = c .before .before .before .before .before .before in
     let s = start (e .before) in
-    requeued-as (c .before .before .leave .ensures) (part-free (marks (read (s .args .rack .now))) (s .args .v) _ (free e))
+    requeued-as (c .before .before .leave .ensures) (part-free (marks (read low (s .args .rack .now))) (s .args .v) _ (free e))
 
 pub requeue-spec : {M : Type 1} → statement M
 requeue-spec =

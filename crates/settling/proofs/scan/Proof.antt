@@ -2,23 +2,26 @@
 use mathlib.Core.Path.{sym, _∙_}
 use Prim.Native.Nat.{_-_, _<_}
 use native.Mathlib.Omega.{arith}
+use Rattle.model.specs.Shape.{low}
+use Rattle.model.proofs.Shapes.{low-good}
 use Rattle.layout.specs.Walks.{Here}
+use Rattle.layout.proofs.Walks.{row-whole}
 use Rattle.layout.proofs.Reached.{reached, reached-here, place-small, further-less}
 use Rattle.moves.proofs.Held.{held-sized, held-small}
-use Rattle.settling.proofs.Scans.{left-sized, ScanFrom, Scanning, scan-starts, scan-visits, scan-sized, scan-again, scan-ends}
+use Rattle.settling.proofs.Scans.{ScanFrom, Scanning, scan-starts, scanning-sized, scan-visits, scan-sized, scan-again, scan-ends}
 use Rattle.settling.proofs.scan.Statement.{statement}
 use Rattle.settling.proofs.scan.Tie as tie
 
 abbrev Inv-loop : tie.InvT-loop
-Inv-loop rack₀ queue₀ words v i t₀ at₀ rack queue t at = Scanning words i v rack₀ queue₀ t₀ rack queue t at
+Inv-loop rack₀ queue₀ words v i t₀ at₀ rack queue t at = Scanning low words i v rack₀ queue₀ t₀ rack queue t at
 
 abbrev μ-loop : tie.MeasureT-loop
-μ-loop rack₀ queue₀ words v i t₀ at₀ rack queue t at = 256 - reached at
+μ-loop rack₀ queue₀ words v i t₀ at₀ rack queue t at = low .most - reached (low .most) at
 
-begun : (c : tie.Start Inv-loop μ-loop) → ScanFrom (c .args .words .now) (c .args .i) (c .args .v) (c .args .rack .now) (c .args .queue .now) (c .args .tally)
+begun : (c : tie.Start Inv-loop μ-loop) → ScanFrom low (c .args .words .now) (c .args .i) (c .args .v) (c .args .rack .now) (c .args .queue .now) (c .args .tally)
 begun c = record { held = c .pre .0 .0; ordered = c .pre .0 .1; inside = c .pre .1 .0 .0; level = c .pre .1 .0 .1; row = c .pre .1 .0 .2 }
 
-v-small : (c : tie.Start Inv-loop μ-loop) → c .args .v < 256
+v-small : (c : tie.Start Inv-loop μ-loop) → c .args .v < low .most
 v-small c = held-small (c .pre .0 .0) (c .args .v) (c .pre .1 .0 .0)
 
 first-requires : tie.Need-first-requires Inv-loop μ-loop
@@ -37,7 +40,7 @@ loop c = c .before .before
 some : (c : tie.Then1 Inv-loop μ-loop) → 0 < loop c .loop .at .rest
 some c = omega (arith, c .if1 .taken)
 
-here : (c : tie.Then1 Inv-loop μ-loop) → Here (loop c .loop .inv .seen) (loop c .loop .inv .from) (loop c .loop .at)
+here : (c : tie.Then1 Inv-loop μ-loop) → Here (low .most) (loop c .loop .inv .seen) (loop c .loop .inv .from) (loop c .loop .at)
 here c = loop c .loop .inv .stands .here (some c)
 
 place-requires : tie.Need-place-requires Inv-loop μ-loop
@@ -70,9 +73,9 @@ loop-less c =
     let t = placed (visited c) .before in
     omega (
       arith,
-      place-small (some t) (here t),
-      reached-here (loop t .loop .at) (some t),
-      further-less (some t) (here t) (c .next .ensures),
+      place-small (row-whole low-good) (some t) (here t),
+      reached-here (low .most) (loop t .loop .at) (some t),
+      further-less (row-whole low-good) (some t) (here t) (c .next .ensures),
     )
 
 loop-again : tie.Need-loop-again Inv-loop μ-loop
@@ -83,7 +86,7 @@ loop-again c =
     scan-again (begun (start l)) (l .loop .inv) (some (p .before)) (p .place .ensures) (v .visit .ensures) (v .visit .kept .1 .0) (c .next .ensures)
 
 same-length : tie.Need-same-length Inv-loop μ-loop
-same-length c = let l = c .before .before in left-sized (l .loop .inv .left) ∙ sym (held-sized (start l .pre .0 .0))
+same-length c = let l = c .before .before in scanning-sized (begun (start l)) (l .loop .inv) ∙ sym (held-sized (start l .pre .0 .0))
 
 same-length-2 : tie.Need-same-length-2 Inv-loop μ-loop
 same-length-2 c = c .before .before .loop .inv .long

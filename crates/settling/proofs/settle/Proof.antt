@@ -5,6 +5,7 @@ use Prim.Native.Nat.{suc, _≤_, _<_}
 use lib.ListN.{length}
 use native.Mathlib.Omega.{arith}
 use borrow.Author.Needs.{needs}
+use Rattle.model.specs.Shape.{low}
 use Rattle.model.specs.State.{base}
 use Rattle.model.specs.Bytes.{read}
 use Rattle.model.specs.Moves.{pick, found}
@@ -27,7 +28,7 @@ use Rattle.settling.proofs.settle.Statement.{statement}
 use Rattle.settling.proofs.settle.Tie as tie
 
 abbrev Inv-loop : tie.InvT-loop
-Inv-loop rack₀ queue₀ words left₀ t₀ rack queue left t = TakingsLeft words (running rack₀ queue₀ t₀) (length queue₀) rack queue left t
+Inv-loop rack₀ queue₀ words left₀ t₀ rack queue left t = TakingsLeft low words (running low rack₀ queue₀ t₀) (length queue₀) rack queue left t
 
 abbrev μ-loop : tie.MeasureT-loop
 μ-loop rack₀ queue₀ words left₀ t₀ rack queue left t = left
@@ -56,7 +57,7 @@ pick-requires : tie.Need-pick-requires Inv-loop μ-loop
 pick-requires c κs =
     let l = c .before .before .before .loop in
     let h = l .inv .holds in
-    (l .inv .held, (h .within, all-of (λ v. v < read (l .rack) .n) (queueIn (l .queue) (l .t)) (λ v m. h .lists .only v m .0)))
+    (l .inv .held, (h .within, all-of (λ v. v < read low (l .rack) .n) (queueIn (l .queue) (l .t)) (λ v m. h .lists .only v m .0)))
 
 enum-known-i : tie.Need-enum-known-i Inv-loop μ-loop
 enum-known-i c = search needs
@@ -89,19 +90,19 @@ returns c =
 -- what was picked is the pick of the queues
 picked : (c : tie.After-i Inv-loop μ-loop) →
     let l = c .before .before .before .before .before .before .loop in
-    pick (suc (base .top)) (queuesIn (read (l .rack) .rank) (queueIn (l .queue) (l .t))) ≡ found (c .i .given .0 .0) (c .i .given .0 .1 .0)
+    pick (suc (base .top)) (queuesIn (read low (l .rack) .rank) (queueIn (l .queue) (l .t))) ≡ found (c .i .given .0 .0) (c .i .given .0 .1 .0)
 picked c = sym (c .before .before .pick .ensures) ∙ ap foundBy (c .i .given .1)
+
+-- a taking was left
+some-left : (c : tie.After-i Inv-loop μ-loop) → 1 ≤ c .before .before .before .before .before .before .loop .left
+some-left c = c .before .before .before .before .before .loop-test .taken
 
 take-requires : tie.Need-take-requires Inv-loop μ-loop
 take-requires c κs =
     let d = c .before .before .before in
     let g = d .before .before .before .before .before .before .loop .inv in
     let a = taking-of _ _ _ _ _ (g .held .proper) (g .holds) (picked d) in
-    ((g .held, g .ordered), ((a .inside, a .free, a .rank, a .level), (g .holds, going-room g)))
-
--- a taking was left
-some-left : (c : tie.After-i Inv-loop μ-loop) → 1 ≤ c .before .before .before .before .before .before .loop .left
-some-left c = c .before .before .before .before .before .loop-test .taken
+    ((g .held, g .ordered), ((a .inside, a .free, a .rank, a .level), (g .holds, going-room g (some-left d))))
 
 sub-left : tie.Need-sub-left Inv-loop μ-loop
 sub-left c = omega (arith, some-left (c .before .before .before .before .before .before .before .before))

@@ -2,6 +2,7 @@
 use Prim.Native.Nat.{_≤_, _<_}
 use native.Mathlib.Omega.{arith}
 use borrow.Author.Needs.{needs}
+use Rattle.model.specs.Shape.{low}
 use Rattle.model.specs.State.{base}
 use Rattle.settling.proofs.Requeuing.{room-as}
 use Rattle.settling.proofs.Takes.{Handed, handed-held, handed-waits, handed-falls, handed-draws, taken-draws, taken-falls}
@@ -18,7 +19,7 @@ start c = c .before .before .before .before .before
 handed : (c : tie.After-hand-over) →
     let l = left c in
     let a = start l .args in
-    Handed (a .rack .now) (a .queue .now) (a .tally) (a .i) (a .v) (c .hand-over .result .below) (c .hand-over .last .0) (l .leave .last .0)
+    Handed low (a .rack .now) (a .queue .now) (a .tally) (a .i) (a .v) (c .hand-over .result .below) (c .hand-over .last .0) (l .leave .last .0)
     (l .leave .result)
 handed c =
     let l = left c in

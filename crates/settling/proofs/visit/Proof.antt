@@ -2,6 +2,7 @@
 use native.Mathlib.Omega.{arith}
 use lib.Dec.{T}
 use borrow.Author.Needs.{needs}
+use Rattle.model.specs.Shape.{low}
 use Rattle.model.specs.State.{base}
 use Rattle.model.specs.Bytes.{read}
 use Rattle.model.specs.Moves.{due}
@@ -12,7 +13,7 @@ use Rattle.settling.proofs.Turns.{Visiting, turn-high, turn-few, turn-d
 use Rattle.settling.proofs.visit.Statement.{statement}
 use Rattle.settling.proofs.visit.Tie as tie
 
-visiting : (c : tie.Start) → Visiting (c .args .rack .now) (c .args .i) (c .args .w)
+visiting : (c : tie.Start) → Visiting low (c .args .rack .now) (c .args .i) (c .args .w)
 visiting c = record { held = c .pre .0 .0; inside = c .pre .1 .0 .0; level = c .pre .1 .0 .1 }
 
 rank-requires : tie.Need-rank-requires
@@ -32,7 +33,7 @@ returns c =
 phi-requires : tie.Need-phi-requires
 phi-requires c κs =
     let a = visiting (c .before .before .before .before .before .before .before) in
-    (held-sized (a .held), (held-small (a .held) _ (a .inside), level-small _ (a .level)))
+    (held-sized (a .held), (held-small (a .held) _ (a .inside), level-small (a .held) _ (a .level)))
 
 threshold-requires : tie.Need-threshold-requires
 threshold-requires c κs = search needs
@@ -50,7 +51,7 @@ returns-2 c =
 abbrev start : tie.Else2 → tie.Start
 start c = c .before .before .before .before .before .before .before .before .before .before
 
-is-due : (c : tie.Else2) → T (due base (start c .args .i) (start c .args .w) (read (start c .args .rack .now)))
+is-due : (c : tie.Else2) → T (due base (start c .args .i) (start c .args .w) (read low (start c .args .rack .now)))
 is-due c =
     turn-due (visiting (start c))
     (omega (arith, c .before .before .before .before .before .rank .ensures, c .before .before .before .before .if1 .left))
@@ -59,7 +60,7 @@ is-due c =
 promote-requires : tie.Need-promote-requires
 promote-requires c κs =
     let s = start (c .before .before) in
-    let d = due-low (s .args .i) (s .args .w) (read (s .args .rack .now)) (is-due (c .before .before)) in
+    let d = due-low (s .args .i) (s .args .w) (read low (s .args .rack .now)) (is-due (c .before .before)) in
     (s .pre .0, ((s .pre .1 .0 .0, d .0, s .pre .1 .0 .1, d .1), s .pre .1 .1))
 
 same-length-3 : tie.Need-same-length-3

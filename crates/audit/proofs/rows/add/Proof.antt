@@ -2,6 +2,7 @@
 use Prim.Native.Nat.{_+_, _*_}
 use native.Mathlib.Omega.{arith}
 use lib.ListN.{length-set}
+use Rattle.model.specs.Shape.{low}
 use Rattle.audit.proofs.Tally.{added, bump-small}
 use borrow.Author.Needs.{needs}
 use Rattle.audit.proofs.rows.add.Statement.{statement}
@@ -44,7 +45,7 @@ add-tally-2 c =
     record {
       fits = omega (
         arith,
-        bump-small t (4 * s .args .w + s .args .r) (4 * s .args .v + s .args .r) (omega arith),
+        bump-small t (low .levels * s .args .w + s .args .r) (low .levels * s .args .v + s .args .r) (omega arith),
         s .pre .1 .1 .1 .1 (s .args .v) (s .pre .1 .0),
       );
     }
@@ -58,7 +59,7 @@ same-length c = search needs
 returns : tie.Need-returns
 returns c =
     let s = c .before .before in
-    added (s .args .tally .now) (s .args .v) (s .args .w) (s .args .r) (s .pre .0) (s .pre .1 .0) (s .pre .1 .1 .0) (s .pre .1 .1 .1 .0)
+    added low (s .args .tally .now) (s .args .v) (s .args .w) (s .args .r) (s .pre .0) (s .pre .1 .0) (s .pre .1 .1 .0) (s .pre .1 .1 .1 .0)
 
 pub add-spec : {M : Type 1} → statement M
 add-spec =

@@ -5,6 +5,7 @@ use native.Mathlib.Omega.{arith}
 use lib.ListN.{length}
 use borrow.Author.Count.{below-more}
 use borrow.Author.Tests.{not-true, not-false}
+use Rattle.model.specs.Shape.{low}
 use Rattle.model.proofs.Tests.{true-T}
 use Rattle.layout.proofs.Said.{said, unsaid, says-yes, says-no}
 use Rattle.audit.specs.Tally.{tallied, Holds}
@@ -14,7 +15,7 @@ use Rattle.audit.proofs.rows.all.Statement.{statement}
 use Rattle.audit.proofs.rows.all.Tie as tie
 
 abbrev Inv-loop : tie.InvT-loop
-Inv-loop rack tally₀ n v₀ tally v = (v ≤ n) × ((length tally ≡ length tally₀) × (Holds tally (tallied rack v) × ((w : ℕ) → w < v → Row rack n w)))
+Inv-loop rack tally₀ n v₀ tally v = (v ≤ n) × ((length tally ≡ length tally₀) × (Holds low tally (tallied low rack v) × ((w : ℕ) → w < v → Row low rack n w)))
 
 abbrev μ-loop : tie.MeasureT-loop
 μ-loop rack tally₀ n v₀ tally v = n - v
@@ -65,7 +66,7 @@ returns-2 c =
     let l = c .before .loop in
     let e : l .v ≡ s .args .n = omega (arith, c .loop-test .left, l .inv .0) in (
       says-yes (λ w h. l .inv .1 .1 .1 w (omega arith)),
-      λ _. subst (λ (k : ℕ). Holds (l .tally) (tallied (s .args .rack .now) k)) e (l .inv .1 .1 .0),
+      λ _. subst (λ (k : ℕ). Holds low (l .tally) (tallied low (s .args .rack .now) k)) e (l .inv .1 .1 .0),
     )
 
 pub all-spec : {M : Type 1} → statement M

@@ -2,6 +2,7 @@
 use Prim.Native.Nat.{_+_, _-_, _*_, _/_, _≤_}
 use native.Mathlib.Omega.{arith}
 use borrow.Author.Tests.{not-true, not-false}
+use Rattle.model.specs.Shape.{low}
 use Rattle.layout.proofs.Said.{said, unsaid, says-yes, says-no}
 use Rattle.audit.specs.Parts.{OnceBelow}
 use borrow.Author.Needs.{needs}
@@ -9,7 +10,7 @@ use Rattle.audit.proofs.rows.once_row.Statement.{statement}
 use Rattle.audit.proofs.rows.once_row.Tie as tie
 
 abbrev Inv-loop : tie.InvT-loop
-Inv-loop rack v k₀ k = (k ≤ v / 64 + 1) × OnceBelow rack v (64 * k)
+Inv-loop rack v k₀ k = (k ≤ v / 64 + 1) × OnceBelow low rack v (64 * k)
 
 abbrev μ-loop : tie.MeasureT-loop
 μ-loop rack v k₀ k = v / 64 + 1 - k

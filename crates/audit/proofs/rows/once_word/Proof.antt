@@ -5,6 +5,7 @@ use Prim.Native.Nat.{_+_, _*_, _<_}
 use native.Mathlib.Omega.{arith}
 use lib.Dec.{T}
 use lib.Count.{trailingZeros}
+use Rattle.model.specs.Shape.{low}
 use Rattle.model.specs.Bytes.{ownsAt}
 use Rattle.model.proofs.Tests.{true-T}
 use Rattle.bitset.proofs.Words.{dropped-less}
@@ -16,7 +17,7 @@ use Rattle.audit.proofs.rows.once_word.Statement.{statement}
 use Rattle.audit.proofs.rows.once_word.Tie as tie
 
 abbrev Inv-loop : tie.InvT-loop
-Inv-loop rack v k x₀ x = Midway (ownsAt rack v) (OnceBelow rack v) (64 * k) x
+Inv-loop rack v k x₀ x = Midway (ownsAt low rack v) (OnceBelow low rack v) (64 * k) x
 
 abbrev μ-loop : tie.MeasureT-loop
 μ-loop rack v k x₀ x = x
@@ -28,7 +29,7 @@ loop-holds : tie.Need-loop-holds Inv-loop μ-loop
 loop-holds c =
     let s = c .before .before in
     let bs = s .args .rack .now in
-    midway-start (ownsAt bs (s .args .v)) (OnceBelow bs (s .args .v)) (64 * s .args .k) (c .word .result) (c .word .ensures) (s .pre .1 .1 .1)
+    midway-start (ownsAt low bs (s .args .v)) (OnceBelow low bs (s .args .v)) (64 * s .args .k) (c .word .result) (c .word .ensures) (s .pre .1 .1 .1)
 
 mul-w : tie.Need-mul-w Inv-loop μ-loop
 mul-w c = search needs
@@ -38,12 +39,12 @@ first : (c : tie.In-loop Inv-loop μ-loop) →
     let s = c .before .before .before .before in
     let l = c .before .loop in
     let w = 64 * s .args .k + trailingZeros 64 (l .x) in
-    (trailingZeros 64 (l .x) < 64) × T (ownsAt (s .args .rack .now) (s .args .v) w) × OnceBelow (s .args .rack .now) (s .args .v) w
+    (trailingZeros 64 (l .x) < 64) × T (ownsAt low (s .args .rack .now) (s .args .v) w) × OnceBelow low (s .args .rack .now) (s .args .v) w
 first c =
     let s = c .before .before .before .before in
     let l = c .before .loop in
     let bs = s .args .rack .now in
-    midway-first (ownsAt bs (s .args .v)) (OnceBelow bs (s .args .v)) (once-skips bs (s .args .v)) (64 * s .args .k) (l .x) (l .inv)
+    midway-first (ownsAt low bs (s .args .v)) (OnceBelow low bs (s .args .v)) (once-skips low bs (s .args .v)) (64 * s .args .k) (l .x) (l .inv)
     (omega (arith, c .loop-test .taken))
 
 cast-w : tie.Need-cast-w Inv-loop μ-loop
@@ -81,8 +82,8 @@ loop-again c =
     let bs = s .args .rack .now in
     let v = s .args .v in
     let w = 64 * s .args .k + trailingZeros 64 (l .x) in
-    midway-next (ownsAt bs v) (OnceBelow bs v) (once-skips bs v) (64 * s .args .k) (l .x) (l .inv) (omega (arith, t .loop-test .taken)) (OnceBelow bs v)
-    (once-add bs v w (first t .2) (λ o. subst T (sym (c .before .owns .ensures) ∙ c .if1 .left) o))
+    midway-next (ownsAt low bs v) (OnceBelow low bs v) (once-skips low bs v) (64 * s .args .k) (l .x) (l .inv) (omega (arith, t .loop-test .taken)) (OnceBelow low bs v)
+    (once-add low bs v w (first t .2) (λ o. subst T (sym (c .before .owns .ensures) ∙ c .if1 .left) o))
 
 returns-2 : tie.Need-returns-2 Inv-loop μ-loop
 returns-2 c =
@@ -90,7 +91,7 @@ returns-2 c =
     let l = c .before .loop in
     let bs = s .args .rack .now in
     let v = s .args .v in
-    says-yes (midway-end (ownsAt bs v) (OnceBelow bs v) (once-skips bs v) (64 * s .args .k) (l .x) (l .inv) (c .loop-test .left))
+    says-yes (midway-end (ownsAt low bs v) (OnceBelow low bs v) (once-skips low bs v) (64 * s .args .k) (l .x) (l .inv) (c .loop-test .left))
 
 pub once-word-spec : {M : Type 1} → statement M
 once-word-spec =

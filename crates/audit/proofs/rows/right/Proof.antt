@@ -1,5 +1,6 @@
 -- `audit::rows::right` meets its contract. Assumes nothing.
 use native.Mathlib.Omega.{arith}
+use Rattle.model.specs.Shape.{low}
 use Rattle.model.specs.Bytes.{ownsAt}
 use Rattle.model.proofs.Facts.{self-says, not-says}
 use Rattle.layout.proofs.Said.{says-by, says-is}
@@ -23,7 +24,7 @@ returns-2 : tie.Need-returns-2
 returns-2 c =
     let a = c .before .before .before .before .args in
     says-by (λ n. record { high = omega arith; once = n }) (λ g. g .once)
-    (not-says (says-is (c .owns .ensures) (self-says (ownsAt (a .rack .now) (a .w) (a .v)))))
+    (not-says (says-is (c .owns .ensures) (self-says (ownsAt low (a .rack .now) (a .w) (a .v)))))
 
 pub right-spec : {M : Type 1} → statement M
 right-spec = tie.close (tie.spec rank-requires cast-if1 returns owns-requires returns-2)

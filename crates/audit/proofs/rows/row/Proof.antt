@@ -3,6 +3,7 @@ use mathlib.Core.Path.{_≡_}
 use Prim.Native.Nat.{suc, _≤_}
 use native.Mathlib.Omega.{arith}
 use borrow.Author.Tests.{not-true, not-false}
+use Rattle.model.specs.Shape.{low}
 use Rattle.model.specs.State.{base}
 use Rattle.model.specs.Bytes.{rankAt}
 use Rattle.layout.proofs.Said.{said, unsaid, says-no, says-by}
@@ -56,7 +57,7 @@ returns-2 c =
     let t = w .before .before in
     let none = t .before .before .before in
     let s = none .before .before .before .before in
-    let low : rankAt (s .args .rack .now) (s .args .v) ≤ base .top =
+    let under : rankAt (s .args .rack .now) (s .args .v) ≤ base .top =
     omega (arith, t .if2 .taken, t .before .top .ensures, t .before .before .rank .ensures) in (
       says-by
           (λ g. record {
@@ -65,7 +66,7 @@ returns-2 c =
             below = λ _. g;
             top = λ h. absurd (omega arith);
           })
-          (λ g. g .below low) (w .walk-row .ensures .0),
+          (λ g. g .below under) (w .walk-row .ensures .0),
       w .walk-row .ensures .1,
     )
 
@@ -106,7 +107,7 @@ returns-4 c =
             top = λ _. g;
           })
           (λ g. g .top (omega arith)) (c .once-row .ensures),
-      λ _. top-adds-none bs (s .args .tally .now) (s .args .v) (omega arith) (s .pre .1 .1 .1),
+      λ _. top-adds-none low bs (s .args .tally .now) (s .args .v) (omega arith) (s .pre .1 .1 .1),
     )
 
 pub row-spec : {M : Type 1} → statement M

@@ -4,7 +4,7 @@ use Prim.Native.Nat.{ℕ, _+_, _-_, _*_, _≤_}
 use native.Mathlib.Omega.{arith}
 use lib.ListN.{length}
 use borrow.Author.Tests.{not-true, not-false}
-use Rattle.model.specs.Bytes.{most}
+use Rattle.model.specs.Shape.{low}
 use Rattle.model.proofs.Tests.{true-T}
 use Rattle.layout.proofs.Said.{unsaid, says-yes, says-no}
 use Rattle.audit.specs.Parts.{Walked}
@@ -14,7 +14,7 @@ use Rattle.audit.proofs.rows.walk_row.Statement.{statement}
 use Rattle.audit.proofs.rows.walk_row.Tie as tie
 
 abbrev Inv-loop : tie.InvT-loop
-Inv-loop rack tally₀ v r n k₀ tally k = (64 * k ≤ most) × ((length tally ≡ length tally₀) × Walked rack tally v (64 * k))
+Inv-loop rack tally₀ v r n k₀ tally k = (64 * k ≤ low .most) × ((length tally ≡ length tally₀) × Walked low rack tally v (64 * k))
 
 abbrev μ-loop : tie.MeasureT-loop
 μ-loop rack tally₀ v r n k₀ tally k = n - 64 * k
@@ -22,7 +22,7 @@ abbrev μ-loop : tie.MeasureT-loop
 loop-holds : tie.Need-loop-holds Inv-loop μ-loop
 loop-holds c =
     let s = c .before .before in
-    (omega arith, (refl, walked-start (s .args .rack .now) (s .args .tally .now) (s .args .v) (s .pre .1 .1 .1 .1 .1 .1)))
+    (omega arith, (refl, walked-start low (s .args .rack .now) (s .args .tally .now) (s .args .v) (s .pre .1 .1 .1 .1 .1 .1)))
 
 mul-loop : tie.Need-mul-loop Inv-loop μ-loop
 mul-loop c = record { fits = omega (arith, c .loop .inv .0) }
@@ -44,7 +44,7 @@ returns c =
     let l = w .before .before .before .loop in
     let s = w .before .before .before .before .before .before in (
       says-no (λ g. unsaid (w .walk-word .ensures .0) (not-true _ (c .if1 .taken))
-          (right-past (s .args .rack .now) (l .tally) (s .args .v) (s .args .n) (64 * l .k + 64) (omega (arith, w .before .before .loop-test .taken)) (s .pre .1 .1 .1 .1 .1 .0) g)),
+          (right-past low (s .args .rack .now) (l .tally) (s .args .v) (s .args .n) (64 * l .k + 64) (omega (arith, w .before .before .loop-test .taken)) (s .pre .1 .1 .1 .1 .1 .0) g)),
       λ z. absurd z,
     )
 
@@ -60,11 +60,11 @@ loop-again c =
     let l = w .before .before .before .loop in
     let s = w .before .before .before .before .before .before in
     let e : 64 * l .k + 64 ≡ 64 * (l .k + 1) = omega arith in
-    let p : 64 * (l .k + 1) ≤ most = omega (arith, w .before .before .loop-test .taken) in (
+    let p : 64 * (l .k + 1) ≤ low .most = omega (arith, w .before .before .loop-test .taken) in (
       p,
       (
         w .walk-word .kept .1 .0 ∙ l .inv .1 .0,
-        subst (λ (q : ℕ). Walked (s .args .rack .now) (w .walk-word .last .1 .0) (s .args .v) q) e (w .walk-word .ensures .1 (true-T {b = w .walk-word .result} (not-false _ (c .if1 .left)))),
+        subst (λ (q : ℕ). Walked low (s .args .rack .now) (w .walk-word .last .1 .0) (s .args .v) q) e (w .walk-word .ensures .1 (true-T {b = w .walk-word .result} (not-false _ (c .if1 .left)))),
       ),
     )
 
@@ -78,7 +78,7 @@ returns-2 c =
     let walked = l .inv .1 .1 in
     let past : s .args .n ≤ 64 * l .k = omega (arith, c .loop-test .left) in (
       says-yes (λ x h o. walked .right x (omega arith) o),
-      λ _. walked-end (s .args .rack .now) (l .tally) (s .args .v) (64 * l .k) (l .inv .0) (λ j a b. s .pre .1 .1 .1 .1 .1 .0 j a (omega arith)) walked,
+      λ _. walked-end low (s .args .rack .now) (l .tally) (s .args .v) (64 * l .k) (l .inv .0) (λ j a b. s .pre .1 .1 .1 .1 .1 .0 j a (omega arith)) walked,
     )
 
 pub walk-row-spec : {M : Type 1} → statement M

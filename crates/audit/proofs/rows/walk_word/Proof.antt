@@ -7,6 +7,7 @@ use lib.Dec.{T}
 use lib.ListN.{length}
 use lib.Count.{trailingZeros}
 use borrow.Author.Tests.{not-true, not-false}
+use Rattle.model.specs.Shape.{low}
 use Rattle.model.specs.Bytes.{ownsAt}
 use Rattle.bitset.proofs.Words.{dropped-less}
 use Rattle.layout.proofs.Said.{said, unsaid, says-yes, says-no}
@@ -18,7 +19,7 @@ use Rattle.audit.proofs.rows.walk_word.Statement.{statement}
 use Rattle.audit.proofs.rows.walk_word.Tie as tie
 
 abbrev Inv-loop : tie.InvT-loop
-Inv-loop rack tally₀ v r k x₀ tally x = (length tally ≡ length tally₀) × Midway (ownsAt rack v) (Walked rack tally v) (64 * k) x
+Inv-loop rack tally₀ v r k x₀ tally x = (length tally ≡ length tally₀) × Midway (ownsAt low rack v) (Walked low rack tally v) (64 * k) x
 
 abbrev μ-loop : tie.MeasureT-loop
 μ-loop rack tally₀ v r k x₀ tally x = x
@@ -30,7 +31,7 @@ loop-holds : tie.Need-loop-holds Inv-loop μ-loop
 loop-holds c =
     let s = c .before .before .before in
     let bs = s .args .rack .now in
-    (refl, midway-start (ownsAt bs (s .args .v)) (Walked bs (s .args .tally .now) (s .args .v)) (64 * s .args .k) (c .word .result) (c .word .ensures) (s .pre .1 .1 .1 .1 .1))
+    (refl, midway-start (ownsAt low bs (s .args .v)) (Walked low bs (s .args .tally .now) (s .args .v)) (64 * s .args .k) (c .word .result) (c .word .ensures) (s .pre .1 .1 .1 .1 .1))
 
 mul-w : tie.Need-mul-w Inv-loop μ-loop
 mul-w c = search needs
@@ -40,12 +41,12 @@ first : (c : tie.In-loop Inv-loop μ-loop) →
     let s = c .before .before .before .before .before in
     let l = c .before .loop in
     let w = 64 * s .args .k + trailingZeros 64 (l .x) in
-    (trailingZeros 64 (l .x) < 64) × T (ownsAt (s .args .rack .now) (s .args .v) w) × Walked (s .args .rack .now) (l .tally) (s .args .v) w
+    (trailingZeros 64 (l .x) < 64) × T (ownsAt low (s .args .rack .now) (s .args .v) w) × Walked low (s .args .rack .now) (l .tally) (s .args .v) w
 first c =
     let s = c .before .before .before .before .before in
     let l = c .before .loop in
     let bs = s .args .rack .now in
-    midway-first (ownsAt bs (s .args .v)) (Walked bs (l .tally) (s .args .v)) (walked-skips bs (l .tally) (s .args .v)) (64 * s .args .k) (l .x) (l .inv .1)
+    midway-first (ownsAt low bs (s .args .v)) (Walked low bs (l .tally) (s .args .v)) (walked-skips low bs (l .tally) (s .args .v)) (64 * s .args .k) (l .x) (l .inv .1)
     (omega (arith, c .loop-test .taken))
 
 cast-w : tie.Need-cast-w Inv-loop μ-loop
@@ -82,7 +83,8 @@ add-requires c κs =
           omega (arith, f .0),
           (
             p .1 .1 .0,
-            walked-small (s .args .rack .now) (l .tally) (s .args .v) (64 * s .args .k + trailingZeros 64 (l .x)) (s .args .r) (p .0) (omega (arith, f .0)) (p .1 .1 .0) (f .2),
+            walked-small low (s .args .rack .now) (l .tally) (s .args .v) (omega arith)
+                (64 * s .args .k + trailingZeros 64 (l .x)) (s .args .r) (p .0) (omega (arith, f .0)) (p .1 .1 .0) (f .2),
           ),
         ),
       ),
@@ -107,10 +109,10 @@ loop-again c =
     let w = 64 * s .args .k + trailingZeros 64 (l .x) in
     let f = first t in
     let right = said (a .before .before .before .right .ensures) (not-false _ (a .before .before .if1 .left)) in
-    let added = subst (λ (r : ℕ). Added (l .tally) (a .add .last .0) v w r) (s .pre .1 .1 .0) (a .add .ensures) in (
+    let added = subst (λ (r : ℕ). Added low (l .tally) (a .add .last .0) v w r) (s .pre .1 .1 .0) (a .add .ensures) in (
       added .long ∙ l .inv .0,
-      midway-next (ownsAt bs v) (Walked bs (l .tally) v) (walked-skips bs (l .tally) v) (64 * s .args .k) (l .x) (l .inv .1)
-          (omega (arith, t .loop-test .taken)) (Walked bs (a .add .last .0) v) (walked-add bs (l .tally) v (a .add .last .0) w (f .2) (f .1) right added),
+      midway-next (ownsAt low bs v) (Walked low bs (l .tally) v) (walked-skips low bs (l .tally) v) (64 * s .args .k) (l .x) (l .inv .1)
+          (omega (arith, t .loop-test .taken)) (Walked low bs (a .add .last .0) v) (walked-add low bs (l .tally) v (a .add .last .0) w (f .2) (f .1) right added),
     )
 
 same-length-2 : tie.Need-same-length-2 Inv-loop μ-loop
@@ -122,7 +124,7 @@ returns-2 c =
     let l = c .before .loop in
     let bs = s .args .rack .now in
     let v = s .args .v in
-    let all = midway-end (ownsAt bs v) (Walked bs (l .tally) v) (walked-skips bs (l .tally) v) (64 * s .args .k) (l .x) (l .inv .1) (c .loop-test .left) in
+    let all = midway-end (ownsAt low bs v) (Walked low bs (l .tally) v) (walked-skips low bs (l .tally) v) (64 * s .args .k) (l .x) (l .inv .1) (c .loop-test .left) in
     (says-yes (all .right), λ _. all)
 
 pub walk-word-spec : {M : Type 1} → statement M

@@ -1,7 +1,9 @@
 -- `layout::unused::counts_unused` meets its contract: the counts from n on are one stretch of the bytes. Assumes nothing.
-use native.Mathlib.Omega.{arith}
 use Prim.Native.Nat.{_+_, _*_}
-use Rattle.layout.proofs.Spans.{part-says, span-counts}
+use native.Mathlib.Omega.{arith}
+use Rattle.model.specs.Shape.{low, phisFrom}
+use Rattle.model.proofs.Shapes.{low-good}
+use Rattle.layout.proofs.Spans.{span-counts}
 use borrow.Author.Needs.{needs}
 use Rattle.layout.proofs.unused.counts_unused.Statement.{statement}
 use Rattle.layout.proofs.unused.counts_unused.Tie as tie
@@ -27,9 +29,8 @@ is-zero-requires c κs = search needs
 returns : tie.Need-returns
 returns c =
     let s = c .before .before .before in
-    let bs = s .args .rack .now in
-    span-counts bs (s .args .n) (c .is-zero .result)
-    (part-says bs (776 + 4 * s .args .n) 1800 0 (omega arith) (omega (arith, s .pre .0)) (c .is-zero .ensures))
+    span-counts low-good (s .args .rack .now) (s .pre .0) (s .args .n) (s .pre .1) (λ k. c .before .before .shared-slice-known .given k .fits)
+    (phisFrom low + low .levels * s .args .n) (omega arith) (c .is-zero .ensures)
 
 pub counts-unused-spec : {M : Type 1} → statement M
 counts-unused-spec =

@@ -1,7 +1,6 @@
 -- `layout::unused::mates_unused` meets its contract: the entries for mates from n on are one stretch of the bytes. Assumes nothing.
-use native.Mathlib.Omega.{arith}
-use Prim.Native.Nat.{_+_, _*_}
-use Rattle.layout.proofs.Spans.{part-says, span-mates}
+use Rattle.model.proofs.Shapes.{low-good}
+use Rattle.layout.proofs.Spans.{span-mates}
 use borrow.Author.Needs.{needs}
 use Rattle.layout.proofs.unused.mates_unused.Statement.{statement}
 use Rattle.layout.proofs.unused.mates_unused.Tie as tie
@@ -27,9 +26,7 @@ is-ones-requires c κs = search needs
 returns : tie.Need-returns
 returns c =
     let s = c .before .before .before in
-    let bs = s .args .rack .now in
-    span-mates bs (s .args .n) (c .is-ones .result) (λ k. c .before .before .shared-slice-known .given k .fits)
-    (part-says bs (264 + 2 * s .args .n) 776 255 (omega arith) (omega (arith, s .pre .0)) (c .is-ones .ensures))
+    span-mates low-good (s .args .rack .now) (s .pre .0) (s .args .n) (s .pre .1) (λ k. c .before .before .shared-slice-known .given k .fits) (c .is-ones .ensures)
 
 pub mates-unused-spec : {M : Type 1} → statement M
 mates-unused-spec =

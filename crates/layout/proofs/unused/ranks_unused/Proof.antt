@@ -1,7 +1,6 @@
 -- `layout::unused::ranks_unused` meets its contract: the ranks from n on are one stretch of the bytes. Assumes nothing.
-use native.Mathlib.Omega.{arith}
-use Prim.Native.Nat.{_+_}
-use Rattle.layout.proofs.Spans.{part-says, span-ranks}
+use Rattle.model.proofs.Shapes.{low-good}
+use Rattle.layout.proofs.Spans.{span-ranks}
 use borrow.Author.Needs.{needs}
 use Rattle.layout.proofs.unused.ranks_unused.Statement.{statement}
 use Rattle.layout.proofs.unused.ranks_unused.Tie as tie
@@ -24,9 +23,7 @@ is-zero-requires c κs = search needs
 returns : tie.Need-returns
 returns c =
     let s = c .before .before .before in
-    let bs = s .args .rack .now in
-    span-ranks bs (s .args .n) (c .is-zero .result)
-    (part-says bs (8 + s .args .n) 264 0 (omega arith) (omega (arith, s .pre .0)) (c .is-zero .ensures))
+    span-ranks low-good (s .args .rack .now) (s .pre .0) (s .args .n) (s .pre .1) (c .is-zero .ensures)
 
 pub ranks-unused-spec : {M : Type 1} → statement M
 ranks-unused-spec =

@@ -1,7 +1,6 @@
 -- `layout::unused::rows_unused` meets its contract: the rows from n on are one stretch of the bytes. Assumes nothing.
-use native.Mathlib.Omega.{arith}
-use Prim.Native.Nat.{_+_, _*_}
-use Rattle.layout.proofs.Spans.{part-says, span-rows}
+use Rattle.model.proofs.Shapes.{low-good}
+use Rattle.layout.proofs.Spans.{span-rows}
 use borrow.Author.Needs.{needs}
 use Rattle.layout.proofs.unused.rows_unused.Statement.{statement}
 use Rattle.layout.proofs.unused.rows_unused.Tie as tie
@@ -27,9 +26,7 @@ is-zero-requires c κs = search needs
 returns : tie.Need-returns
 returns c =
     let s = c .before .before .before in
-    let bs = s .args .rack .now in
-    span-rows bs (s .args .n) (c .is-zero .result) (λ k. c .before .before .shared-slice-known .given k .fits)
-    (part-says bs (1800 + 32 * s .args .n) 9992 0 (omega arith) (omega (arith, s .pre .0)) (c .is-zero .ensures))
+    span-rows low-good (s .args .rack .now) (s .pre .0) (s .args .n) (s .pre .1) (λ k. c .before .before .shared-slice-known .given k .fits) (c .is-zero .ensures)
 
 pub rows-unused-spec : {M : Type 1} → statement M
 rows-unused-spec =

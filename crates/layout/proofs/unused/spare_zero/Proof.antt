@@ -1,10 +1,9 @@
--- `layout::unused::spare_zero` meets its contract. Assumes nothing.
-use mathlib.Core.Path.{_≡_, sym, ap, _∙_}
-use Prim.Native.Nat.{ℕ, _+_, _-_}
-use lib.ListN.{getD}
+-- `layout::unused::spare_zero` meets its contract: the spare bytes are one stretch. Assumes nothing.
+use Prim.Native.Nat.{_+_}
 use native.Mathlib.Omega.{arith}
+use Rattle.model.specs.Shape.{low}
 use Rattle.layout.proofs.Said.{says-by}
-use Rattle.layout.proofs.Spans.{part-says}
+use Rattle.layout.proofs.Spans.{cut-says}
 use borrow.Author.Needs.{needs}
 use Rattle.layout.proofs.unused.spare_zero.Statement.{statement}
 use Rattle.layout.proofs.unused.spare_zero.Tie as tie
@@ -24,12 +23,8 @@ is-zero-requires c κs = search needs
 returns : tie.Need-returns
 returns c =
     let s = c .before .before .before in
-    let bs = s .args .rack .now in
-    says-by (λ f k h. f (4 + k) (omega arith) (omega arith))
-    (λ f k a b.
-    let i : 4 + (k - 4) ≡ k = omega arith in
-    ap (λ (m : ℕ). getD bs m 0) (sym i) ∙ f (k - 4) (omega arith))
-    (part-says bs 4 8 0 (omega arith) (omega (arith, s .pre)) (c .is-zero .ensures))
+    says-by (λ f k h. f k h (omega arith)) (λ f k h l. f k h)
+    (cut-says (s .args .rack .now) 4 0 (2 + low .spare) 4 8 0 (omega arith) (omega arith) (omega arith) (omega (arith, s .pre)) (c .is-zero .ensures))
 
 pub spare-zero-spec : {M : Type 1} → statement M
 spare-zero-spec =

@@ -2,19 +2,21 @@
 use Prim.Native.Nat.{_-_, _*_}
 use native.Mathlib.Omega.{arith}
 use borrow.Author.Needs.{needs}
+use Rattle.model.specs.Shape.{low}
 use Rattle.model.specs.Bytes.{ownsAt}
-use Rattle.layout.proofs.Walks.{Passed, passed-none, passed-word, passed-here, passed-end}
+use Rattle.model.proofs.Shapes.{low-good}
+use Rattle.layout.proofs.Walks.{row-whole, Passed, passed-none, passed-word, passed-here, passed-end}
 use Rattle.layout.proofs.walk.from_word.Statement.{statement}
 use Rattle.layout.proofs.walk.from_word.Tie as tie
 
 abbrev Inv-loop : tie.InvT-loop
-Inv-loop rack v k word₀ word = Passed (ownsAt rack v) (64 * k) (64 * word)
+Inv-loop rack v k word₀ word = Passed (low .most) (ownsAt low rack v) (64 * k) (64 * word)
 
 abbrev μ-loop : tie.MeasureT-loop
-μ-loop rack v k word₀ word = 256 - 64 * word
+μ-loop rack v k word₀ word = low .most - 64 * word
 
 loop-holds : tie.Need-loop-holds Inv-loop μ-loop
-loop-holds c = passed-none (ownsAt (c .before .args .rack .now) (c .before .args .v)) (64 * c .before .args .k) (omega arith)
+loop-holds c = passed-none (low .most) (ownsAt low (c .before .args .rack .now) (c .before .args .v)) (64 * c .before .args .k) (omega arith)
 
 mul-loop : tie.Need-mul-loop Inv-loop μ-loop
 mul-loop c = omega (arith, c .loop .inv .within)
@@ -36,7 +38,7 @@ loop-less c = omega (arith, c .before .before .loop-test .taken)
 loop-again : tie.Need-loop-again Inv-loop μ-loop
 loop-again c =
     let l = c .before .before .before .loop in
-    passed-word (l .word) (l .inv) (omega (arith, c .before .before .loop-test .taken)) (c .before .word .ensures) (c .if1 .left)
+    passed-word (l .word) (l .inv) (omega (arith, c .before .before .loop-test .taken)) (c .before .word .ensures) (row-whole low-good) (c .if1 .left)
 
 returns-2 : tie.Need-returns-2 Inv-loop μ-loop
 returns-2 c = passed-end (c .before .loop .word) (c .before .loop .inv) (omega (arith, c .loop-test .left))

@@ -3,6 +3,7 @@ use mathlib.Core.Path.{_≡_, refl, subst}
 use Prim.Native.Nat.{ℕ, _+_, _*_}
 use native.Mathlib.Omega.{arith}
 use borrow.Author.Needs.{needs}
+use Rattle.model.specs.Shape.{low}
 use Rattle.model.specs.Bytes.{ownsAt}
 use Rattle.layout.specs.Walks.{Stands}
 use Rattle.layout.proofs.walk.next.Statement.{statement}
@@ -26,7 +27,7 @@ returns-2 c =
     let e : 64 * (a .at .word + 1) ≡ 64 * a .at .word + 64 = omega arith in
     record {
       same = λ l. absurd (omega (arith, c .before .before .if1 .left));
-      on = λ _. subst (λ (k : ℕ). Stands (ownsAt (a .rack .now) (a .v)) k (c .from-word .result)) e (c .from-word .ensures);
+      on = λ _. subst (λ (k : ℕ). Stands (low .most) (ownsAt low (a .rack .now) (a .v)) k (c .from-word .result)) e (c .from-word .ensures);
     }
 
 pub next-spec : {M : Type 1} → statement M

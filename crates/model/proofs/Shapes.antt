@@ -1,0 +1,98 @@
+-- The shape of document 01 has what is asked of a shape; and bytes of another shape, computed, with what `low` has no use for: counts of two
+-- bytes, and more edges than two bytes can tell. Assumes nothing.
+use mathlib.Core.Path.{_≡_, refl}
+use mathlib.Core.Bool.{_&&_}
+use mathlib.Core.List.{[], _∷_}
+use Prim.Native.Nat.{suc, _+_, _*_, _<_}
+use native.Mathlib.Omega.{arith}
+use lib.Dec.{eqb}
+use lib.ListN.{take, drop}
+use Rattle.model.specs.Counting.{sum, eachOnto, each}
+use Rattle.model.specs.Parts.{numAt, num, rowByte, bytesOf}
+use Rattle.model.specs.Shape.{Shape, Good, low, matesFrom, phisFrom, rowsFrom, rackLength}
+use Rattle.model.specs.State.{base}
+use Rattle.model.specs.Bytes.{edgesAt, mateAt, phiAt, Fields, image}
+
+pub low-good : Good low
+low-good = record {
+  some = omega arith;
+  rows = refl;
+  named = omega arith;
+  wide = omega arith;
+  counts = omega arith;
+  high = omega arith;
+  ranks = omega arith;
+  words = refl;
+  spare = omega arith;
+  edges = λ _. omega arith;
+  figures = omega arith;
+}
+
+-- Every level of the rules has its count, and there is no other: what is asked where all counts of a vertex are gone through.
+abbrev pub Full : Shape → Type 0
+Full S = S .levels ≡ suc (base .top)
+
+pub low-full : Full low
+unfolding base
+low-full = refl
+
+pub low-room : base .top < low .levels
+low-room = omega (arith, low-full)
+
+-- "8: one byte a board", "264: two bytes a board", "776: four bytes a board", "1,800: 32 bytes a board", "Exactly 9,992 bytes"
+pub low-places : (matesFrom low ≡ 264) × (phisFrom low ≡ 776) × (rowsFrom low ≡ 1800) × (rackLength low ≡ 9992)
+low-places = (refl, refl, refl, refl)
+
+-- ---- another shape
+
+unfoldable pub other : Shape
+other = record { most = 64; levels = 3; width = 2; row = 8; spare = 0 }
+
+pub other-good : Good other
+unfolding other
+other-good = record {
+  some = omega arith;
+  rows = refl;
+  named = omega arith;
+  wide = omega arith;
+  counts = omega arith;
+  high = omega arith;
+  ranks = omega arith;
+  words = refl;
+  spare = omega arith;
+  edges = λ h. absurd (omega arith);
+  figures = omega arith;
+}
+
+-- fields, no rack's: a number in each place that tells where it stands
+unfoldable pub marked : Fields
+unfolding other
+marked = record {
+  kind = record { shape = other };
+  n = 5;
+  edges = 70000;
+  rank = λ v. v;
+  mate = λ v. 1000 + v;
+  phi = λ v j. 300 * v + j;
+  owns = λ v w. eqb v 2 && eqb w 13;
+}
+
+-- n and the number of edges: 70,000 is 4,464, which is 112 and 256 times 17, and 65,536 once
+pub marked-head : take 8 (image marked) ≡ 5 ∷ 0 ∷ 112 ∷ 17 ∷ 0 ∷ 0 ∷ 1 ∷ 0 ∷ []
+unfolding marked other image bytesOf each eachOnto num
+marked-head = refl
+
+-- the counts of vertex 1, two bytes each: 300, 301 and 302
+pub marked-counts : take 6 (drop (phisFrom other + 6) (image marked)) ≡ 44 ∷ 1 ∷ 45 ∷ 1 ∷ 46 ∷ 1 ∷ []
+unfolding marked other image bytesOf each eachOnto num
+marked-counts = refl
+
+-- row 2, where bit 5 of the second byte is set, ends as the rows do
+pub marked-row : take 8 (drop (rowsFrom other + 16) (image marked)) ≡ 0 ∷ 32 ∷ 0 ∷ 0 ∷ 0 ∷ 0 ∷ 0 ∷ 0 ∷ []
+unfolding marked other image bytesOf each eachOnto num rowByte sum
+marked-row = refl
+
+-- and they are read where they were written
+pub marked-read : (edgesAt other (image marked) ≡ 70000) × (mateAt other (image marked) 63 ≡ 1063) × (phiAt other (image marked) 4 2 ≡ 1202)
+unfolding marked other image bytesOf each eachOnto num numAt edgesAt mateAt phiAt
+marked-read = (refl, refl, refl)
