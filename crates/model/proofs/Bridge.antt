@@ -8,12 +8,13 @@ use Prim.Native.Nat.{ℕ, suc, _-_, _≤_, _<_}
 use native.Mathlib.Omega.{arith}
 use lib.Dec.{T}
 use lib.ListN.{length}
-use Rattle.model.specs.Shape.{Shape, Good, rackLength}
-use Rattle.model.specs.State.{Rules, State, edge, phi, edges}
+use Rattle.model.specs.Shape.{Shape, Good, low, rackLength}
+use Rattle.model.specs.State.{Rules, base, State, edge, phi, edges}
 use Rattle.model.specs.Bytes.{noMate, sizeAt, rankAt, mateAt, phiAt, ownsAt, named, read, mateEntry, fieldsOf, write}
 use Rattle.model.specs.Sound.{sound}
 use Rattle.model.specs.Valid.{IsBytes, Valid}
 use Rattle.model.proofs.Tests.{eq?, le?, bool-ext, or-cases}
+use Rattle.model.proofs.Shapes.{low-good, low-room}
 use Rattle.model.proofs.Fields.{size-write, edges-write, spare-write, rank-write, mate-write, phi-write, owns-write, image-bytes, Shows, image-is}
 use Rattle.model.proofs.Facts.{Unused, Mated, Facts, sound-says}
 use Rattle.model.proofs.Reading.{read-shape, named-free, named-mate, read-size, read-rank, read-rank-past, read-mate, read-mate-past, read-owns, read-owned, not-marker, read-write}
@@ -35,9 +36,9 @@ module _ {R : Rules} {s : State} (good : Good (s .kind .shape)) (top : R .top < 
   abbrev of : Shape
   of = s .kind .shape
 
-  -- below n is below the most
-  low : (v : ℕ) → v < sizeAt (write s) → v < of .most
-  low v l = omega (arith, size-write s good, size-few ok)
+  -- a vertex below n has its place
+  placed : (v : ℕ) → v < sizeAt (write s) → v < of .most
+  placed v l = omega (arith, size-write s good, size-few ok)
 
   owned : (v w : ℕ) → v < of .most → w < of .most → T (ownsAt of (write s) v w) → T (s .owns v w)
   owned v w l k t = subst T (owns-write s good v w l k) t
@@ -54,14 +55,14 @@ module _ {R : Rules} {s : State} (good : Good (s .kind .shape)) (top : R .top < 
 
   write-mated : (v : ℕ) → v < sizeAt (write s) → mateAt of (write s) v ≢ noMate → Mated of (write s) v (mateAt of (write s) v)
   write-mated v l d =
-      let e : mateAt of (write s) v ≡ mateEntry s v = mate-write s good v (low v l) in
+      let e : mateAt of (write s) v ≡ mateEntry s v = mate-write s good v (placed v l) in
       let far : s .mate v ≢ v = λ q. d (e ∙ mateEntry-free s v q) in
       let w : ℕ = s .mate v in
       let small : w < of .most = omega (arith, mate-inside ok v far, size-few ok) in
       let m : Mated of (write s) v w = record {
         back = mate-write s good w small ∙ mateEntry-mate s w (λ q. far (sym q ∙ ok .mates-back v)) ∙ ok .mates-back v;
         linked = subst (λ (x : State). T (edge x v w)) (sym (read-write R s good ok)) (ok .mates-linked v far);
-        level = rank-write s good w small ∙ ok .mates-level v ∙ sym (rank-write s good v (low v l));
+        level = rank-write s good w small ∙ ok .mates-level v ∙ sym (rank-write s good v (placed v l));
       } in
       subst (Mated of (write s) v) (sym (e ∙ mateEntry-mate s v far)) m
 
@@ -78,19 +79,19 @@ module _ {R : Rules} {s : State} (good : Good (s .kind .shape)) (top : R .top < 
     unused = write-unused;
     unnamed = λ v l w k p t. let i = ok .inside v w (owned v w l k t) in omega (arith, size-write s good);
     size = (omega (arith, size-write s good, ok .some), omega (arith, size-write s good, size-few ok));
-    ranks = λ v l. omega (arith, rank-write s good v (low v l), ok .ranks v);
-    no-loop = λ v l t. ok .no-loop v (owned v v (low v l) (low v l) t);
-    owned-once = λ v l w k t. ok .owned-once v w (owned v w (low v l) (low w k) (t .0)) (owned w v (low w k) (low v l) (t .1));
+    ranks = λ v l. omega (arith, rank-write s good v (placed v l), ok .ranks v);
+    no-loop = λ v l t. ok .no-loop v (owned v v (placed v l) (placed v l) t);
+    owned-once = λ v l w k t. ok .owned-once v w (owned v w (placed v l) (placed w k) (t .0)) (owned w v (placed w k) (placed v l) (t .1));
     edges = edges-write s good (size-few ok) ∙ ap edges (sym (read-write R s good ok));
-    phi = λ v l j h. phi-write s good v j (low v l) h ∙ ap (λ (x : State). phi x v j) (sym (read-write R s good ok));
+    phi = λ v l j h. phi-write s good v j (placed v l) h ∙ ap (λ (x : State). phi x v j) (sym (read-write R s good ok));
     owner-high = λ v l w k t.
-        omega (arith, rank-write s good v (low v l), rank-write s good w (low w k), ok .owner-high v w (owned v w (low v l) (low w k) t));
+        omega (arith, rank-write s good v (placed v l), rank-write s good w (placed w k), ok .owner-high v w (owned v w (placed v l) (placed w k) t));
     mated = write-mated;
     free-low = λ v l. (
-      λ e. rank-write s good v (low v l) ∙ ok .free-low v (marker-free v (sym (mate-write s good v (low v l)) ∙ e)),
-      λ e. mate-write s good v (low v l) ∙ mateEntry-free s v (ok .low-free v (sym (rank-write s good v (low v l)) ∙ e)),
+      λ e. rank-write s good v (placed v l) ∙ ok .free-low v (marker-free v (sym (mate-write s good v (placed v l)) ∙ e)),
+      λ e. mate-write s good v (placed v l) ∙ mateEntry-free s v (ok .low-free v (sym (rank-write s good v (placed v l)) ∙ e)),
     );
-    phi-low = λ v l j h. omega (arith, phi-write s good v j (low v l) (omega arith), ok .phi-low v j (omega arith));
+    phi-low = λ v l j h. omega (arith, phi-write s good v j (placed v l) (omega arith), ok .phi-low v j (omega arith));
   }
 
 -- what is written of a valid state is sound
@@ -265,3 +266,7 @@ sound-valid R S good top bs hb e t =
 pub bridge : (R : Rules) (S : Shape) → Good S → R .top < S .levels → (bs : List ℕ) → IsBytes bs → length bs ≡ rackLength S
     → T (sound R S bs) ↔ ((bs ≡ write (read S bs)) × Valid R (read S bs))
 bridge R S good top bs hb e = (sound-valid R S good top bs hb e, λ h. valid-sound R S good top bs (h .0) (h .1))
+
+-- The 9,992 bytes of document 01's rack.
+pub bridge-low : (bs : List ℕ) → IsBytes bs → length bs ≡ 9992 → T (sound base low bs) ↔ ((bs ≡ write (read low bs)) × Valid base (read low bs))
+bridge-low = bridge base low low-good low-room
