@@ -66,7 +66,7 @@ pub fn size(rack: &[u8]) -> usize
     requires { ⌜ Sized low (now rack) ⌝ }
     ensures { λ r. ⌜ r ≡ sizeAt (now (rack .entry)) ⌝ }
 {
-    two_bytes(rack[0], rack[1]) as usize
+    two_bytes(rack[shape::SIZE], rack[shape::SIZE + 1]) as usize
 }
 
 // The number of edges.
@@ -74,7 +74,7 @@ pub fn edges(rack: &[u8]) -> u16
     requires { ⌜ Sized low (now rack) ⌝ }
     ensures { λ r. ⌜ r ≡ edgesAt low (now (rack .entry)) ⌝ }
 {
-    two_bytes(rack[2], rack[3])
+    two_bytes(rack[shape::EDGES], rack[shape::EDGES + 1])
 }
 
 // Sets the number of edges.
@@ -82,8 +82,8 @@ pub fn set_edges(rack: &mut [u8], x: u16)
     requires { ⌜ Sized low (now rack) ⌝ }
     ensures { λ _. ⌜ now (rack .exit) ≡ setEdges low (now (rack .entry)) x ⌝ }
 {
-    rack[2] = (x % 256) as u8;
-    rack[3] = (x / 256) as u8;
+    rack[shape::EDGES] = (x % 256) as u8;
+    rack[shape::EDGES + 1] = (x / 256) as u8;
 }
 
 // The rank of vertex v: its level plus 1.
@@ -277,6 +277,6 @@ pub fn clear(rack: &mut [u8], n: u16)
     ensures { λ _. ⌜ now (rack .exit) ≡ write (empty lowKind n) ⌝ }
 {
     blank(rack);
-    rack[0] = (n % 256) as u8;
-    rack[1] = (n / 256) as u8;
+    rack[shape::SIZE] = (n % 256) as u8;
+    rack[shape::SIZE + 1] = (n / 256) as u8;
 }

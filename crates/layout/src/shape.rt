@@ -10,7 +10,13 @@ pub const LEVELS: usize = 4;
 
 pub const ROW: usize = 32;
 
-// Where the parts begin: the ranks, the mates, the counts, the rows. Before them stand n, the number of edges and spare bytes.
+// Where the parts begin: n, the number of edges, the spare bytes, the ranks, the mates, the counts, the rows.
+pub const SIZE: usize = 0;
+
+pub const EDGES: usize = 2;
+
+pub const SPARE: usize = 4;
+
 pub const RANKS: usize = 8;
 
 pub const MATES: usize = RANKS + MOST;

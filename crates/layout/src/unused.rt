@@ -14,7 +14,7 @@ pub fn spare_zero(rack: &[u8]) -> bool
     requires { ⌜ Sized low (now rack) ⌝ }
     ensures { λ r. ⌜ Says r ((k : ℕ) → k < 2 + low .spare → getD (now (rack .entry)) (4 + k) 0 ≡ 0) ⌝ }
 {
-    bitset::is_zero(&rack[4..shape::RANKS])
+    bitset::is_zero(&rack[shape::SPARE..shape::RANKS])
 }
 
 // Whether the ranks from vertex n on are 0.

@@ -22,6 +22,9 @@ slice-write-rack c = search needs
 cast-rack-2 : tie.Need-cast-rack-2
 cast-rack-2 c = search needs
 
+add-rack : tie.Need-add-rack
+add-rack c = search needs
+
 slice-write-rack-2 : tie.Need-slice-write-rack-2
 slice-write-rack-2 c = search needs
 
@@ -41,6 +44,6 @@ clear-spec =
     cast-rack
     slice-write-rack
     cast-rack-2
-    slice-write-rack-2
+    add-rack slice-write-rack-2
     same-length
     returns)

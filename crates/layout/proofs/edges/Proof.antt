@@ -8,6 +8,9 @@ use Rattle.layout.proofs.edges.Tie as tie
 shared-slice-read-two-bytes : tie.Need-shared-slice-read-two-bytes
 shared-slice-read-two-bytes c = search needs
 
+add-two-bytes : tie.Need-add-two-bytes
+add-two-bytes c = search needs
+
 shared-slice-read-two-bytes-2 : tie.Need-shared-slice-read-two-bytes-2
 shared-slice-read-two-bytes-2 c = search needs
 
@@ -19,4 +22,4 @@ unfolding edgesAt numAt
 returns c = search needs
 
 pub edges-spec : {M : Type 1} → statement M
-edges-spec = tie.close (tie.spec shared-slice-read-two-bytes shared-slice-read-two-bytes-2 two-bytes-requires returns)
+edges-spec = tie.close (tie.spec shared-slice-read-two-bytes add-two-bytes shared-slice-read-two-bytes-2 two-bytes-requires returns)

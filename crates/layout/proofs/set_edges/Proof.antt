@@ -17,6 +17,9 @@ slice-write-rack c = search needs
 cast-rack-2 : tie.Need-cast-rack-2
 cast-rack-2 c = search needs
 
+add-rack : tie.Need-add-rack
+add-rack c = search needs
+
 slice-write-rack-2 : tie.Need-slice-write-rack-2
 slice-write-rack-2 c = search needs
 
@@ -31,4 +34,4 @@ returns c =
     ap (setNum 2 (a .rack .now) 2) e
 
 pub set-edges-spec : {M : Type 1} → statement M
-set-edges-spec = tie.close (tie.spec cast-rack slice-write-rack cast-rack-2 slice-write-rack-2 same-length returns)
+set-edges-spec = tie.close (tie.spec cast-rack slice-write-rack cast-rack-2 add-rack slice-write-rack-2 same-length returns)

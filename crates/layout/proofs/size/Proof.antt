@@ -8,6 +8,9 @@ use Rattle.layout.proofs.size.Tie as tie
 shared-slice-read-two-bytes : tie.Need-shared-slice-read-two-bytes
 shared-slice-read-two-bytes c = search needs
 
+add-two-bytes : tie.Need-add-two-bytes
+add-two-bytes c = search needs
+
 shared-slice-read-two-bytes-2 : tie.Need-shared-slice-read-two-bytes-2
 shared-slice-read-two-bytes-2 c = search needs
 
@@ -22,4 +25,4 @@ unfolding sizeAt numAt
 returns c = search needs
 
 pub size-spec : {M : Type 1} → statement M
-size-spec = tie.close (tie.spec shared-slice-read-two-bytes shared-slice-read-two-bytes-2 two-bytes-requires cast-result returns)
+size-spec = tie.close (tie.spec shared-slice-read-two-bytes add-two-bytes shared-slice-read-two-bytes-2 two-bytes-requires cast-result returns)
