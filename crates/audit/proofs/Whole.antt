@@ -8,7 +8,7 @@ use native.Mathlib.Omega.{arith}
 use lib.Dec.{T}
 use lib.ListN.{getD}
 use Rattle.model.specs.Counting.{sum}
-use Rattle.model.specs.Shape.{Shape, Good, low}
+use Rattle.model.specs.Shape.{Shape, GoodShape, low}
 use Rattle.model.specs.State.{base, phi, edges}
 use Rattle.model.specs.Bytes.{sizeAt, edgesAt, rankAt, ownsAt, read}
 use Rattle.model.specs.Sound.{sound}
@@ -58,7 +58,7 @@ module _ (S : Shape) (bs : List ℕ) (few : sizeAt bs ≤ S .most) (rows : (v : 
 
 -- The counts of a sound rack are tested at every level of its shape, and the audit tests those up to the top: every level has its count, and
 -- there is none more.
-module _ (S : Shape) (good : Good S) (full : Full S) (bs : List ℕ) where
+module _ (S : Shape) (good : GoodShape S) (full : Full S) (bs : List ℕ) where
   -- all parts, together
   pub whole : 1 ≤ sizeAt bs → sizeAt bs ≤ S .most → ((k : ℕ) → k < 2 + S .spare → getD bs (4 + k) 0 ≡ 0)
       → ((v : ℕ) → v < S .most → sizeAt bs ≤ v → Unused S bs v) → Edges S bs (sizeAt bs) → edgesAt S bs ≡ sum (degreeAt S bs) (sizeAt bs)

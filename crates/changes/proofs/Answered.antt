@@ -3,7 +3,7 @@ use mathlib.Core.Path.{_≡_, refl, sym, ap, ap₂, _∙_, subst}
 use mathlib.Core.Logic.{_≢_, inl, inr}
 use mathlib.Core.List.{List}
 use Prim.Native.Nat.{ℕ, _<_}
-use Rattle.model.specs.Shape.{Shape, Good}
+use Rattle.model.specs.Shape.{Shape, GoodShape}
 use Rattle.model.specs.State.{base, Kind, State, edge, pairs}
 use Rattle.model.specs.Bytes.{read, write}
 use Rattle.model.specs.Valid.{Valid}
@@ -78,7 +78,7 @@ module _ {S : Shape} (bs : List ℕ) (s : State) (of : s .kind .shape ≡ S) (e 
 
   pub sounded-of : Sounded S bs
   sounded-of = record {
-    good = subst Good of (ok .good);
+    good = subst GoodShape of (ok .good);
     room = subst (λ (S : Shape). base .top < S .levels) of (ok .room);
     written = e ∙ ap write (sym rack-reads);
     valid = subst (Valid base) (sym rack-reads) (ok .valid);

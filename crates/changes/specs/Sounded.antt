@@ -6,7 +6,7 @@ use mathlib.Core.List.{List}
 use Prim.Native.Nat.{ℕ, zero, suc, _/_, _≤_, _<_}
 use lib.Dec.{T, eqb, ltb}
 use lib.ListN.{length}
-use Rattle.model.specs.Shape.{Shape, Good}
+use Rattle.model.specs.Shape.{Shape, GoodShape}
 use Rattle.model.specs.State.{base, State, edge, below, pending}
 use Rattle.model.specs.Bytes.{read, write}
 use Rattle.model.specs.Valid.{Valid}
@@ -19,7 +19,7 @@ use Rattle.changes.specs.declared.Answer.{Answer}
 
 -- the bytes are the writing of a valid state of a good shape, with room for the levels: exactly the sound racks are (model, proofs/Bridge.antt)
 pub record Sounded (S : Shape) (bs : List ℕ) : Type 0 where
-  pub good : Good S
+  pub good : GoodShape S
   pub room : base .top < S .levels
   pub written : bs ≡ write (read S bs)
   pub valid : Valid base (read S bs)

@@ -21,7 +21,7 @@ use Rattle.edges.proofs.Joined.{EdgeMore, edges-more}
 use Rattle.edges.proofs.Changed.{owning-bit, owning-rest, add-high, add-low, add-kind, add-size, add-rank, add-mate, add-proper, add-joined}
 use Rattle.edges.proofs.Shifted.{Higher, Shifted, gained}
 use Rattle.edges.proofs.Stages.{turned, own-turned}
-use Rattle.edges.proofs.EdgeSteps.{EdgeStep, Room, step-countable}
+use Rattle.edges.proofs.EdgeSteps.{EdgeStep, CanCount, step-countable}
 
 -- the edge can be added
 pub record Addable (S : Shape) (a b : ℕ) (s : State) : Type 0 where
@@ -85,7 +85,7 @@ module _ {S : Shape} (a b : ℕ) (s : State) (A : Addable S a b s) where
     }
 
     -- the counts and the number of edges of the state that comes fit their bytes, and they are one more
-    room : Room S a b j true s
+    room : CanCount S a b j true s
     room =
         let good = proper-good added-proper in
         record {

@@ -5,7 +5,7 @@ use mathlib.Core.Bool.{Bool}
 use mathlib.Core.List.{List}
 use Prim.Native.Nat.{ℕ, suc, _+_, _-_, _≤_, _<_}
 use native.Mathlib.Omega.{arith}
-use Rattle.model.specs.Shape.{Shape, Good}
+use Rattle.model.specs.Shape.{Shape, GoodShape}
 use Rattle.model.specs.State.{base, State, phi, edges}
 use Rattle.model.specs.Bytes.{edgesAt, phiAt, image, write}
 use Rattle.model.proofs.Shapes.{Full}
@@ -33,7 +33,7 @@ pub record EdgeStep (S : Shape) (a b j : ℕ) (more : Bool) (s t : State) : Type
   pub b-in : b < S .most
 
 -- there is room for it in the counts of both ends and in the number of edges
-pub record Room (S : Shape) (a b j : ℕ) (more : Bool) (s : State) : Type 0 where
+pub record CanCount (S : Shape) (a b j : ℕ) (more : Bool) (s : State) : Type 0 where
   pub of-a : (x : ℕ) → j ≤ x → CanStep more (largestCount S) (phi s a x)
   pub of-b : (x : ℕ) → j ≤ x → CanStep more (largestCount S) (phi s b x)
   pub of-edges : CanStep more (largestEdges S) (edges s)
@@ -43,7 +43,7 @@ module _ (a b j : ℕ) (more : Bool) (s t : State) (E : EdgeStep (s .kind .shape
   abbrev of : Shape
   of = s .kind .shape
 
-  abbrev good : Good of
+  abbrev good : GoodShape of
   good = E .proper .good
 
   abbrev above : ℕ
@@ -77,7 +77,7 @@ module _ (a b j : ℕ) (more : Bool) (s t : State) (E : EdgeStep (s .kind .shape
       ∙ ap (setEdges of (image (counted s t))) (ap (step more) ends-edges ∙ sym (E .number))
       ∙ edges-written s t good (E .kind) (E .size) (E .rank) (E .mate)
 
-  countable : Room of a b j more s → Countable of more (image (turned s t)) a b j
+  countable : CanCount of a b j more s → Countable of more (image (turned s t)) a b j
   countable r = record {
     a-in = E .a-in;
     b-in = E .b-in;
@@ -97,7 +97,7 @@ module _ {S : Shape} (a b j : ℕ) (more : Bool) (s t : State) (E : EdgeStep S a
       subst (λ (T : Shape). EdgeStep T a b j more s t → edgeCounted T more (image (turned s t)) a b j ≡ write t) (E .proper .shape)
       (written a b j more s t) E
 
-  pub step-countable : Room S a b j more s → Countable S more (image (turned s t)) a b j
+  pub step-countable : CanCount S a b j more s → Countable S more (image (turned s t)) a b j
   step-countable =
-      subst (λ (T : Shape). EdgeStep T a b j more s t → Room T a b j more s → Countable T more (image (turned s t)) a b j) (E .proper .shape)
+      subst (λ (T : Shape). EdgeStep T a b j more s t → CanCount T a b j more s → Countable T more (image (turned s t)) a b j) (E .proper .shape)
       (countable a b j more s t) E

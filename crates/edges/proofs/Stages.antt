@@ -6,7 +6,7 @@ use mathlib.Core.Bool.{Bool, true, false}
 use mathlib.Core.List.{List}
 use Prim.Native.Nat.{ℕ, _≤_, _<_}
 use lib.Dec.{eqb}
-use Rattle.model.specs.Shape.{Shape, Good}
+use Rattle.model.specs.Shape.{Shape, GoodShape}
 use Rattle.model.specs.State.{State, phi, edges}
 use Rattle.model.specs.Bytes.{noMate, edgesAt, phiAt, Fields, image, mateEntry, fieldsOf, write}
 use Rattle.model.proofs.Fields.{image-length, edges-image, phi-image}
@@ -43,7 +43,7 @@ entry-same : (s t : State) (v : ℕ) → t .mate v ≡ s .mate v → mateEntry s
 unfolding mateEntry
 entry-same s t v e = ap (λ (m : ℕ). elim (eqb m v) [ true ↦ noMate | false ↦ m ]) (sym e)
 
-module _ (s t : State) (good : Good (s .kind .shape)) where
+module _ (s t : State) (good : GoodShape (s .kind .shape)) where
   abbrev of : Shape
   of = s .kind .shape
 

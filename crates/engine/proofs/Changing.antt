@@ -3,7 +3,7 @@ use mathlib.Core.Path.{_≡_, refl, sym, ap, _∙_, subst}
 use mathlib.Core.Logic.{_≢_}
 use mathlib.Core.List.{List}
 use Prim.Native.Nat.{ℕ, _<_}
-use Rattle.model.specs.Shape.{Shape, Good}
+use Rattle.model.specs.Shape.{Shape, GoodShape}
 use Rattle.model.specs.State.{base}
 use Rattle.model.specs.Bytes.{read, write}
 use Rattle.model.specs.Valid.{IsBytes}
@@ -34,7 +34,7 @@ module _ (S : Shape) (bs : List ℕ) (c : Change) where
       }
 
 -- bytes that neither 1 nor 6 fits
-pub sounded : {S : Shape} → Good S → base .top < S .levels → (bs : List ℕ) → IsBytes bs → rackNumber base S bs ≡ 0 → Sounded S bs
+pub sounded : {S : Shape} → GoodShape S → base .top < S .levels → (bs : List ℕ) → IsBytes bs → rackNumber base S bs ≡ 0 → Sounded S bs
 sounded {S} good room bs by e =
     let g = rack-good S bs e in
     let v = sound-valid base S good room bs by (sized-length S bs (g .0)) (true-T (g .1)) in

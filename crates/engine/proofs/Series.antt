@@ -4,7 +4,7 @@ use mathlib.Core.Path.{_≡_, sym, subst}
 use mathlib.Core.List.{List, [], _∷_}
 use Prim.Native.Nat.{ℕ, _<_}
 use lib.Dec.{T}
-use Rattle.model.specs.Shape.{Shape, Good, low}
+use Rattle.model.specs.Shape.{Shape, GoodShape, low}
 use Rattle.model.specs.State.{base}
 use Rattle.model.specs.Sound.{sound}
 use Rattle.model.specs.Valid.{IsBytes}
@@ -45,7 +45,7 @@ kept S l bs (d ∷ ds) h p =
     }
 
 -- From any sound rack of any good shape, whatever the codes, the vertices and the words of the calls.
-pub demand-three-of-series : (S : Shape) → Good S → base .top < S .levels → (bs : List ℕ) → IsBytes bs → T (sized S bs) → T (sound base S bs)
+pub demand-three-of-series : (S : Shape) → GoodShape S → base .top < S .levels → (bs : List ℕ) → IsBytes bs → T (sized S bs) → T (sound base S bs)
     → (ds : List CallMade) → Series S bs ds → SeriesDemand S (ledgerOf S bs) bs ds
 demand-three-of-series S good room bs by sz so ds h = kept S (ledgerOf S bs) bs ds h (demand-three S good room bs by sz so (asked ds))
 

@@ -11,7 +11,7 @@ use lib.ListN.{length, set, take, drop, replicate, length-replicate, replicate-a
 use lib.Seq.{take-at, drop-at}
 use borrow.Rule.Slice.PartMut.{putMid}
 use Rattle.model.specs.Counting.{sum, eachOnto, each}
-use Rattle.model.specs.Shape.{Shape, Good, matesFrom, phisFrom, rackLength}
+use Rattle.model.specs.Shape.{Shape, GoodShape, matesFrom, phisFrom, rackLength}
 use Rattle.model.specs.State.{Kind, edge, near, below, phi, edges, empty}
 use Rattle.model.specs.Parts.{num, rowByte, Part, bytesOf}
 use Rattle.model.specs.Bytes.{parts, image, mateEntry, fieldsOf, write}
@@ -91,7 +91,7 @@ no-row : (k : ℕ) → rowByte (λ w. false) k ≡ 0
 unfolding rowByte sum
 no-row k = refl
 
-module _ (K : Kind) (good : Good (K .shape)) (n : ℕ) where
+module _ (K : Kind) (good : GoodShape (K .shape)) (n : ℕ) where
   abbrev S : Shape
   S = K .shape
 

@@ -10,7 +10,7 @@ use lib.Dec.{T, leb, ltb, leb→le, le→leb, ltb→lt, lt→ltb}
 use lib.ListN.{getD, set}
 use lib.Bits.{bitAnd, bitOr}
 use Rattle.model.specs.Counting.{upd}
-use Rattle.model.specs.Shape.{Shape, Good, ranksFrom, matesFrom, phisFrom, rowsFrom}
+use Rattle.model.specs.Shape.{Shape, GoodShape, ranksFrom, matesFrom, phisFrom, rowsFrom}
 use Rattle.model.specs.State.{Kind}
 use Rattle.model.specs.Parts.{bitOf, rowByte, byRows, bytesOf}
 use Rattle.model.specs.Bytes.{half, Fields, parts, image}
@@ -43,7 +43,7 @@ same-next : {m w : ℕ} {f g : ℕ → ℕ} {Rest : Type 0} → ((i : ℕ) → i
     → (m ≡ m) × (w ≡ w) × ((i : ℕ) → i < m → f i ≡ g i) × Rest
 same-next h rest = (refl, refl, h, rest)
 
-pub image-ext : (f g : Fields) → Good (f .kind .shape) → SameFields f g → image f ≡ image g
+pub image-ext : (f g : Fields) → GoodShape (f .kind .shape) → SameFields f g → image f ≡ image g
 unfolding image Same
 image-ext f g good a =
     let S : Shape = f .kind .shape in
@@ -127,7 +127,7 @@ rows-other : (f g : ℕ → ℕ → ℕ) (m k v j : ℕ) → ((p q : ℕ) → (p
 rows-other f g m k v j same u l d =
     rows-ext f g m k u l (λ p q b c e. same p q (λ a z. d (e ∙ ap₂ (λ (x y : ℕ). k * x + y) a z)))
 
-module _ (f : Fields) (good : Good (f .kind .shape)) where
+module _ (f : Fields) (good : GoodShape (f .kind .shape)) where
   abbrev S : Shape
   S = f .kind .shape
 

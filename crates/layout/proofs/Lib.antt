@@ -1,5 +1,5 @@
 -- The laws of the rack's fields that callers cite: rows as parts of the bytes, and images of fields.
-pub mod Parts
+pub mod Rows
 pub mod Pieces
 pub mod Tables
 pub mod Images

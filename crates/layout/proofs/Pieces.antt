@@ -18,7 +18,7 @@ use Rattle.model.proofs.Tests.{eq?}
 use Rattle.model.proofs.Counting.{sum-eq}
 use Rattle.model.proofs.Lists.{upd-same, upd-other}
 use Rattle.model.proofs.Chunks.{each-length, each-ext, rowByte-small, bit-rowByte, rowByte-of}
-use Rattle.model.proofs.Parts.{num-length, span, chunks, chunks-length, part, offset}
+use Rattle.model.proofs.Parts.{num-length, span, chunks, chunks-length, partAt, offset}
 use Rattle.bitset.proofs.Digits.{digit, digit-lt, digit-or, digit-and, digit-bit, digit-hole, or-one, and-one}
 use Rattle.layout.specs.Setters.{setNum}
 
@@ -104,15 +104,15 @@ put k g [] = []
 put zero g (p ∷ ps) = numbers (p .many) (p .width) g ∷ ps
 put (suc k) g (p ∷ ps) = p ∷ put k g ps
 
-pub put-ext : (k : ℕ) (ps : List Part) (f g : ℕ → ℕ) → ((u : ℕ) → u < part k ps .many → f u ≡ g u) → bytesOf (put k f ps) ≡ bytesOf (put k g ps)
+pub put-ext : (k : ℕ) (ps : List Part) (f g : ℕ → ℕ) → ((u : ℕ) → u < partAt k ps .many → f u ≡ g u) → bytesOf (put k f ps) ≡ bytesOf (put k g ps)
 unfolding bytesOf
 put-ext k [] f g h = refl
 put-ext zero (p ∷ ps) f g h = ap (λ (s : List ℕ). s ++ bytesOf ps) (each-ext _ _ (p .many) (λ u l. ap (num (p .width)) (h u l)))
 put-ext (suc k) (p ∷ ps) f g h = ap (λ (s : List ℕ). chunks p ++ s) (put-ext k ps f g h)
 
 -- What every setter does: number i of part k becomes x.
-pub set-part : (k : ℕ) (ps : List Part) (g : ℕ → ℕ) (i at x : ℕ) → i < part k ps .many → at ≡ offset k ps + part k ps .width * i → x ≡ g i
-    → ((u : ℕ) → u < part k ps .many → u ≢ i → part k ps .number u ≡ g u) → setNum (part k ps .width) (bytesOf ps) at x ≡ bytesOf (put k g ps)
+pub set-part : (k : ℕ) (ps : List Part) (g : ℕ → ℕ) (i at x : ℕ) → i < partAt k ps .many → at ≡ offset k ps + partAt k ps .width * i → x ≡ g i
+    → ((u : ℕ) → u < partAt k ps .many → u ≢ i → partAt k ps .number u ≡ g u) → setNum (partAt k ps .width) (bytesOf ps) at x ≡ bytesOf (put k g ps)
 unfolding bytesOf
 set-part k [] g i at x l e same other = absurd (omega arith)
 set-part zero (p ∷ ps) g i at x l e same other =
@@ -122,7 +122,7 @@ set-part zero (p ∷ ps) g i at x l e same other =
     ∙ setNum-left w (chunks p) (bytesOf ps) (w * i) x (omega (arith, chunks-length p, mul-suc w i, mul-le-mul-left w l))
     ∙ ap (λ (s : List ℕ). s ++ bytesOf ps) (set-each w (p .number) g (p .many) i x l same other)
 set-part (suc k) (p ∷ ps) g i at x l e same other =
-    let w : ℕ = part k ps .width in
+    let w : ℕ = partAt k ps .width in
     let from : ℕ = offset k ps + w * i in
     let there : at ≡ span p + from = omega arith in
     ap (λ (m : ℕ). setNum w (bytesOf (p ∷ ps)) m x) there

@@ -11,7 +11,7 @@ use lib.Dec.{T, ltb}
 use lib.ListN.{length, getD, take, drop, length-take, length-drop}
 use lib.Seq.{getD-take, getD-drop}
 use Rattle.model.specs.Counting.{sum, count}
-use Rattle.model.specs.Shape.{Shape, Good, ranksFrom, matesFrom, phisFrom, rowsFrom, rackLength}
+use Rattle.model.specs.Shape.{Shape, GoodShape, ranksFrom, matesFrom, phisFrom, rowsFrom, rackLength}
 use Rattle.model.specs.Bytes.{noMate, rankAt, mateAt, phiAt, ownsAt}
 use Rattle.model.specs.Parts.{numAt, num, bitOf}
 use Rattle.model.specs.Valid.{IsBytes}
@@ -27,7 +27,7 @@ use Rattle.bitset.proofs.Laws.{member-part}
 use Rattle.layout.specs.Setters.{Sized, rowPlace}
 use Rattle.layout.specs.Rows.{degreeAt}
 use Rattle.layout.proofs.Said.{says-by}
-use Rattle.layout.proofs.Parts.{owns-place}
+use Rattle.layout.proofs.Rows.{owns-place}
 
 -- ---- one byte throughout
 
@@ -99,7 +99,7 @@ bits-zero x h f = digits-ext 8 x 0 h (omega arith) (λ j l. elim (eq? (digit x j
 ])
 
 -- Each field from vertex n on. Where the counts begin is given, since the code leaves out the factor 1 of a count of one byte.
-module _ {S : Shape} (good : Good S) (bs : List ℕ) (sized : Sized S bs) (n : ℕ) (up : n ≤ S .most) {b : Bool} where
+module _ {S : Shape} (good : GoodShape S) (bs : List ℕ) (sized : Sized S bs) (n : ℕ) (up : n ≤ S .most) {b : Bool} where
   pub span-ranks : Says b (AllFrom bs (ranksFrom + n) (matesFrom S) 0) → Says b ((v : ℕ) → v < S .most → n ≤ v → rankAt bs v ≡ 0)
   unfolding rankAt
   span-ranks = cut-says bs ranksFrom n (S .most) (ranksFrom + n) (matesFrom S) 0 up refl refl (omega arith)
@@ -160,7 +160,7 @@ word-owns S bs v k x r = record {
 }
 
 -- The rows of the vertices below n, as one row.
-module _ {S : Shape} (good : Good S) (bs : List ℕ) where
+module _ {S : Shape} (good : GoodShape S) (bs : List ℕ) where
   count-rows : (n : ℕ) → count (λ w. member bs (8 * rowsFrom S + w)) (8 * (S .row * n)) ≡ sum (degreeAt S bs) n
   unfolding sum degreeAt
   count-rows zero = ap (count (λ w. member bs (8 * rowsFrom S + w))) (omega arith) ∙ count-zero (λ w. member bs (8 * rowsFrom S + w))

@@ -7,7 +7,7 @@ use native.Mathlib.Omega.{arith}
 use lib.Dec.{T, leb}
 use lib.Bits.{bitAnd}
 use lib.Count.{trailingZeros}
-use Rattle.model.specs.Shape.{Shape, Good}
+use Rattle.model.specs.Shape.{Shape, GoodShape}
 use Rattle.model.proofs.Tests.{le?, leb-yes, leb-no}
 use Rattle.bitset.specs.Words.{Rest}
 use Rattle.bitset.proofs.Words.{First, rest-first, rest-end}
@@ -15,7 +15,7 @@ use Rattle.layout.specs.declared.walk.Cursor.{Cursor}
 use Rattle.layout.specs.Walks.{placeOf, Here, Stands, Further}
 
 -- a row of a good shape is whole words
-pub row-whole : {S : Shape} → Good S → S .most % 64 ≡ 0
+pub row-whole : {S : Shape} → GoodShape S → S .most % 64 ≡ 0
 row-whole good = omega (arith, good .rows, good .words)
 
 -- ---- a word

@@ -8,7 +8,7 @@ use Prim.Native.Nat.{ℕ, suc, _-_, _≤_, _<_}
 use native.Mathlib.Omega.{arith}
 use lib.Dec.{T}
 use lib.ListN.{length}
-use Rattle.model.specs.Shape.{Shape, Good, low, rackLength}
+use Rattle.model.specs.Shape.{Shape, GoodShape, low, rackLength}
 use Rattle.model.specs.State.{Rules, base, State, edge, phi, edges}
 use Rattle.model.specs.Bytes.{noMate, sizeAt, rankAt, mateAt, phiAt, ownsAt, named, read, mateEntry, fieldsOf, write}
 use Rattle.model.specs.Sound.{sound}
@@ -22,7 +22,7 @@ use Rattle.model.proofs.Limits.{edges-fit, edge-within, phi-none, mateE
 
 -- From a valid state to sound bytes.
 -- a valid state is written as bytes
-pub valid-bytes : {R : Rules} {s : State} → Good (s .kind .shape) → R .top < s .kind .shape .levels → Valid R s → IsBytes (write s)
+pub valid-bytes : {R : Rules} {s : State} → GoodShape (s .kind .shape) → R .top < s .kind .shape .levels → Valid R s → IsBytes (write s)
 unfolding write fieldsOf
 valid-bytes {R} {s} good top ok = image-bytes (fieldsOf s) good (record {
   n = omega (arith, size-few ok, good .named);
@@ -32,7 +32,7 @@ valid-bytes {R} {s} good top ok = image-bytes (fieldsOf s) good (record {
   phi = λ v j l k. omega (arith, phi-few ok v j, good .counts);
 })
 
-module _ {R : Rules} {s : State} (good : Good (s .kind .shape)) (top : R .top < s .kind .shape .levels) (ok : Valid R s) where
+module _ {R : Rules} {s : State} (good : GoodShape (s .kind .shape)) (top : R .top < s .kind .shape .levels) (ok : Valid R s) where
   abbrev of : Shape
   of = s .kind .shape
 
@@ -95,11 +95,11 @@ module _ {R : Rules} {s : State} (good : Good (s .kind .shape)) (top : R .top < 
   }
 
 -- what is written of a valid state is sound
-pub write-sound : (R : Rules) (s : State) → Good (s .kind .shape) → R .top < s .kind .shape .levels → Valid R s → T (sound R (s .kind .shape) (write s))
+pub write-sound : (R : Rules) (s : State) → GoodShape (s .kind .shape) → R .top < s .kind .shape .levels → Valid R s → T (sound R (s .kind .shape) (write s))
 write-sound R s good top ok = sound-says R (s .kind .shape) (write s) .test (write-facts good top ok)
 
 -- bytes that are the writing of their own reading are sound where it is valid
-pub valid-sound : (R : Rules) (S : Shape) → Good S → R .top < S .levels → (bs : List ℕ) → bs ≡ write (read S bs) → Valid R (read S bs) → T (sound R S bs)
+pub valid-sound : (R : Rules) (S : Shape) → GoodShape S → R .top < S .levels → (bs : List ℕ) → bs ≡ write (read S bs) → Valid R (read S bs) → T (sound R S bs)
 unfolding read
 valid-sound R S good top bs e ok = subst (λ (x : List ℕ). T (sound R S x)) (sym e) (write-sound R (read S bs) good top ok)
 
@@ -119,7 +119,7 @@ record Paired (S : Shape) (bs : List ℕ) (v : ℕ) : Type 0 where
   entry : mateAt S bs v ≢ noMate
   right : Mated S bs v (mateAt S bs v)
 
-module _ {R : Rules} {S : Shape} {bs : List ℕ} (good : Good S) (top : R .top < S .levels) (f : Facts R S bs) where
+module _ {R : Rules} {S : Shape} {bs : List ℕ} (good : GoodShape S) (top : R .top < S .levels) (f : Facts R S bs) where
   read-inside : (v w : ℕ) → T (read S bs .owns v w) → (v < read S bs .n) × (w < read S bs .n)
   read-inside v w t = let r = read-owned S bs v w t in (omega (arith, read-size S bs), omega (arith, read-size S bs))
 
@@ -254,7 +254,7 @@ module _ {R : Rules} {S : Shape} {bs : List ℕ} (good : Good S) (top : R .top <
   }
 
 -- sound bytes are the writing of their own reading, which is valid
-pub sound-valid : (R : Rules) (S : Shape) → Good S → R .top < S .levels → (bs : List ℕ) → IsBytes bs → length bs ≡ rackLength S → T (sound R S bs)
+pub sound-valid : (R : Rules) (S : Shape) → GoodShape S → R .top < S .levels → (bs : List ℕ) → IsBytes bs → length bs ≡ rackLength S → T (sound R S bs)
     → (bs ≡ write (read S bs)) × Valid R (read S bs)
 unfolding read fieldsOf write
 sound-valid R S good top bs hb e t =
@@ -263,7 +263,7 @@ sound-valid R S good top bs hb e t =
     (image-is (fieldsOf (read S bs)) good bs hb (shown good top f) e, ok)
 
 -- A list of as many bytes as the shape has is sound exactly if it is the writing of its own reading and the state that it reads as is valid.
-pub bridge : (R : Rules) (S : Shape) → Good S → R .top < S .levels → (bs : List ℕ) → IsBytes bs → length bs ≡ rackLength S
+pub bridge : (R : Rules) (S : Shape) → GoodShape S → R .top < S .levels → (bs : List ℕ) → IsBytes bs → length bs ≡ rackLength S
     → T (sound R S bs) ↔ ((bs ≡ write (read S bs)) × Valid R (read S bs))
 bridge R S good top bs hb e = (sound-valid R S good top bs hb e, λ h. valid-sound R S good top bs (h .0) (h .1))
 

@@ -6,7 +6,7 @@ use Prim.Native.Nat.{ℕ, _+_, _-_, _*_, _/_, _%_, _^_, _≤_, _<_}
 use native.Mathlib.Nat.{div-add-mod}
 use native.Mathlib.Omega.{arith}
 use lib.ListN.{length, getD}
-use Rattle.model.specs.Shape.{Shape, Good, ranksFrom, matesFrom, phisFrom, rowsFrom, rackLength}
+use Rattle.model.specs.Shape.{Shape, GoodShape, ranksFrom, matesFrom, phisFrom, rowsFrom, rackLength}
 use Rattle.model.specs.State.{State, phi, edges}
 use Rattle.model.specs.Parts.{numAt, bitOf, rowByte, byRows}
 use Rattle.model.specs.Bytes.{half, sizeAt, edgesAt, rankAt, mateAt, phiAt, ownsAt, Fields, parts, image, mateEntry, fieldsOf, write}
@@ -20,7 +20,7 @@ use Rattle.model.proofs.Parts.{rows-at, rows-inside, in-rows, bytes-len
 pub num-at : (w : ℕ) (bs : List ℕ) (k m : ℕ) {x : ℕ} → k ≡ m → numAt w bs m ≡ x → numAt w bs k ≡ x
 num-at w bs k m e p = ap (numAt w bs) e ∙ p
 
-module _ (f : Fields) (good : Good (f .kind .shape)) where
+module _ (f : Fields) (good : GoodShape (f .kind .shape)) where
   abbrev shape : Shape
   shape = f .kind .shape
 
@@ -93,7 +93,7 @@ pub record Shows (f : Fields) (bs : List ℕ) : Type 0 where
   pub phi : (v j : ℕ) → v < f .kind .shape .most → j < f .kind .shape .levels → phiAt (f .kind .shape) bs v j ≡ f .phi v j
   pub owns : (v w : ℕ) → v < f .kind .shape .most → w < f .kind .shape .most → ownsAt (f .kind .shape) bs v w ≡ f .owns v w
 
-module _ (f : Fields) (good : Good (f .kind .shape)) (bs : List ℕ) (bytes : IsBytes bs) (shows : Shows f bs) where
+module _ (f : Fields) (good : GoodShape (f .kind .shape)) (bs : List ℕ) (bytes : IsBytes bs) (shows : Shows f bs) where
   abbrev S : Shape
   S = f .kind .shape
 
@@ -146,7 +146,7 @@ pub record Fits (f : Fields) : Type 0 where
   pub mate : (v : ℕ) → v < f .kind .shape .most → f .mate v < half
   pub phi : (v j : ℕ) → v < f .kind .shape .most → j < f .kind .shape .levels → f .phi v j < 256 ^ f .kind .shape .width
 
-pub image-bytes : (f : Fields) → Good (f .kind .shape) → Fits f → IsBytes (image f)
+pub image-bytes : (f : Fields) → GoodShape (f .kind .shape) → Fits f → IsBytes (image f)
 unfolding image Fit
 image-bytes f good h =
     let S : Shape = f .kind .shape in
@@ -162,7 +162,7 @@ image-bytes f good h =
 
 -- ---- a rack, written
 
-module _ (s : State) (good : Good (s .kind .shape)) where
+module _ (s : State) (good : GoodShape (s .kind .shape)) where
   abbrev of : Shape
   of = s .kind .shape
 

@@ -7,7 +7,7 @@ use Prim.Native.Nat.{ℕ, suc, _-_, _*_, _/_, _^_, _≤_, _<_}
 use native.Mathlib.Nat.{one-le-pow}
 use native.Mathlib.Omega.{arith}
 use lib.Dec.{T, leb, ltb, leb→le}
-use Rattle.model.specs.Shape.{Good}
+use Rattle.model.specs.Shape.{GoodShape}
 use Rattle.model.specs.Counting.{count}
 use Rattle.model.specs.State.{Rules, State, edge, near, below, phi, edges}
 use Rattle.model.specs.Bytes.{noMate, half, mateEntry}
@@ -44,7 +44,7 @@ edges-bound s m h =
     ))
 
 -- what of their number doesn't fit two bytes fits the bytes that are not spare
-pub edges-fit : (s : State) → Good (s .kind .shape) → s .n ≤ s .kind .shape .most → edges s / half < 256 ^ (2 - s .kind .shape .spare)
+pub edges-fit : (s : State) → GoodShape (s .kind .shape) → s .n ≤ s .kind .shape .most → edges s / half < 256 ^ (2 - s .kind .shape .spare)
 edges-fit s good few = elim (eq? (s .kind .shape .spare) 0) [
   | inl z ↦ omega (
     arith,
@@ -120,7 +120,7 @@ module _ {R : Rules} {s : State} (ok : Valid R s) where
     )
   ]
 
-  pub mateEntry-few : Good (s .kind .shape) → (v : ℕ) → mateEntry s v < 65536
+  pub mateEntry-few : GoodShape (s .kind .shape) → (v : ℕ) → mateEntry s v < 65536
   mateEntry-few good v = elim (eq? (s .mate v) v) [
     | inl e ↦ omega (arith, mateEntry-free s v e)
     | inr d ↦ omega (arith, mateEntry-mate s v d, mate-inside v d, size-few, good .named)

@@ -103,10 +103,10 @@ bytes-length [] = refl
 bytes-length (p ∷ ps) = length-append (chunks p) (bytesOf ps) ∙ omega (arith, chunks-length p, bytes-length ps)
 
 -- part k, from 0, and where it begins
-abbrev pub part : ℕ → List Part → Part
-part k [] = numbers 0 0 (λ i. 0)
-part zero (p ∷ ps) = p
-part (suc k) (p ∷ ps) = part k ps
+abbrev pub partAt : ℕ → List Part → Part
+partAt k [] = numbers 0 0 (λ i. 0)
+partAt zero (p ∷ ps) = p
+partAt (suc k) (p ∷ ps) = partAt k ps
 
 abbrev pub offset : ℕ → List Part → ℕ
 offset k [] = 0
@@ -148,21 +148,21 @@ has-of (p ∷ ps) bs at h = (
   has-of ps bs (at + span p) (λ j l. ap (λ (x : ℕ). getD bs x 0) (add-assoc at (span p) j) ∙ h (span p + j) (omega arith) ∙ after-first p ps j),
 )
 
-has-number : (k : ℕ) (ps : List Part) (bs : List ℕ) (at i : ℕ) → Has bs at ps → i < part k ps .many → 1 ≤ part k ps .width
-    → numAt (part k ps .width) bs (at + (offset k ps + part k ps .width * i)) ≡ part k ps .number i
+has-number : (k : ℕ) (ps : List Part) (bs : List ℕ) (at i : ℕ) → Has bs at ps → i < partAt k ps .many → 1 ≤ partAt k ps .width
+    → numAt (partAt k ps .width) bs (at + (offset k ps + partAt k ps .width * i)) ≡ partAt k ps .number i
 unfolding Has
 has-number k [] bs at i h l w = absurd (omega arith)
 has-number zero (p ∷ ps) bs at i h l w = ap (λ (x : ℕ). numAt (p .width) bs (at + x)) (zero-add (p .width * i)) ∙ h .0 i l w
 has-number (suc k) (p ∷ ps) bs at i h l w =
-    let q : Part = part k ps in
+    let q : Part = partAt k ps in
     ap (numAt (q .width) bs) {y = at + span p + (offset k ps + q .width * i)} (omega arith) ∙ has-number k ps bs (at + span p) i (h .1) l w
 
 -- the bytes of the parts have their numbers: number i of part k, which stands at m
-pub bytes-number : (k : ℕ) (ps : List Part) (i m : ℕ) → i < part k ps .many → 1 ≤ part k ps .width → m ≡ offset k ps + part k ps .width * i
-    → numAt (part k ps .width) (bytesOf ps) m ≡ part k ps .number i
+pub bytes-number : (k : ℕ) (ps : List Part) (i m : ℕ) → i < partAt k ps .many → 1 ≤ partAt k ps .width → m ≡ offset k ps + partAt k ps .width * i
+    → numAt (partAt k ps .width) (bytesOf ps) m ≡ partAt k ps .number i
 unfolding Stands
 bytes-number k ps i m l w e =
-    ap (numAt (part k ps .width) (bytesOf ps)) (e ∙ sym (zero-add (offset k ps + part k ps .width * i)))
+    ap (numAt (partAt k ps .width) (bytesOf ps)) (e ∙ sym (zero-add (offset k ps + partAt k ps .width * i)))
     ∙ has-number k ps (bytesOf ps) 0 i (has-of ps (bytesOf ps) 0 (λ j b. ap (λ (x : ℕ). getD (bytesOf ps) x 0) (zero-add j))) l w
 
 stands-of : (ps : List Part) (bs : List ℕ) → IsBytes bs → (at : ℕ) → Has bs at ps → Stands bs at ps

@@ -5,7 +5,7 @@ use mathlib.Core.List.{List}
 use Prim.Native.Nat.{ℕ, suc, _≤_, _<_}
 use native.Mathlib.Omega.{arith}
 use lib.Dec.{T, ltb, leb→le}
-use Rattle.model.specs.Shape.{Shape, Good}
+use Rattle.model.specs.Shape.{Shape, GoodShape}
 use Rattle.model.specs.State.{Rules, State}
 use Rattle.model.specs.Bytes.{noMate, sizeAt, rankAt, mateAt, ownsAt, named, read, mateEntry, write}
 use Rattle.model.specs.Valid.{Valid}
@@ -63,7 +63,7 @@ module _ (S : Shape) (bs : List ℕ) where
       )
 
 -- A state read back: where nothing stands from n on, and the mates and the ends of edges are vertices.
-module _ (s : State) (good : Good (s .kind .shape)) (few : s .n ≤ s .kind .shape .most)
+module _ (s : State) (good : GoodShape (s .kind .shape)) (few : s .n ≤ s .kind .shape .most)
     (inside : (v w : ℕ) → T (s .owns v w) → (v < s .n) × (w < s .n)) (past-rank : (v : ℕ) → s .n ≤ v → s .rank v ≡ 0)
     (past-mate : (v : ℕ) → s .n ≤ v → s .mate v ≡ v) (mates : (v : ℕ) → v < s .n → s .mate v < s .n) where
   abbrev S : Shape
@@ -108,7 +108,7 @@ module _ (s : State) (good : Good (s .kind .shape)) (few : s .n ≤ s .kind .sha
   }
 
 -- so is a valid state
-module _ (R : Rules) (s : State) (good : Good (s .kind .shape)) (ok : Valid R s) where
+module _ (R : Rules) (s : State) (good : GoodShape (s .kind .shape)) (ok : Valid R s) where
   -- the mate of a vertex is never the marker
   pub not-marker : (v : ℕ) → s .mate v ≢ v → s .mate v ≢ noMate
   not-marker v d e = omega (arith, mate-inside ok v d, size-few ok, good .named)

@@ -9,11 +9,11 @@ use lib.Dec.{eqb}
 use lib.ListN.{take, drop}
 use Rattle.model.specs.Counting.{sum, eachOnto, each}
 use Rattle.model.specs.Parts.{numAt, num, rowByte, bytesOf}
-use Rattle.model.specs.Shape.{Shape, Good, low, matesFrom, phisFrom, rowsFrom, rackLength}
+use Rattle.model.specs.Shape.{Shape, GoodShape, low, matesFrom, phisFrom, rowsFrom, rackLength}
 use Rattle.model.specs.State.{base}
 use Rattle.model.specs.Bytes.{edgesAt, mateAt, phiAt, Fields, image}
 
-pub low-good : Good low
+pub low-good : GoodShape low
 low-good = record {
   some = omega arith;
   rows = refl;
@@ -48,7 +48,7 @@ low-places = (refl, refl, refl, refl)
 unfoldable pub other : Shape
 other = record { most = 64; levels = 3; width = 2; row = 8; spare = 0 }
 
-pub other-good : Good other
+pub other-good : GoodShape other
 unfolding other
 other-good = record {
   some = omega arith;

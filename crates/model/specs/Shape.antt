@@ -37,7 +37,7 @@ abbrev pub rackLength : Shape → ℕ
 rackLength S = rowsFrom S + S .most * S .row
 
 -- What is asked of a shape. Everything that is shown of a rack is shown for any shape that has it.
-pub record Good (S : Shape) : Type 0 where
+pub record GoodShape (S : Shape) : Type 0 where
   -- a row has a bit for each vertex, and no other
   pub some : 1 ≤ S .row
   pub rows : S .most ≡ 8 * S .row

@@ -6,7 +6,7 @@ use mathlib.Core.List.{List}
 use Prim.Native.Nat.{ℕ, zero, suc, _+_, _-_, _≤_, _<_}
 use native.Mathlib.Numerals.{add-one}
 use native.Mathlib.Omega.{arith}
-use Rattle.model.specs.Shape.{Shape, Good}
+use Rattle.model.specs.Shape.{Shape, GoodShape}
 use Rattle.model.specs.State.{State}
 use Rattle.model.specs.Bytes.{Fields, phiAt, image, fieldsOf}
 use Rattle.model.proofs.Fields.{phi-image}
@@ -59,7 +59,7 @@ module _ (S : Shape) (f : ℕ → ℕ) where
 -- ---- on images
 
 -- counts that are the same at every place
-pub counts-ext : (F : Fields) → Good (F .kind .shape) → (g : ℕ → ℕ → ℕ) → ((v x : ℕ) → g v x ≡ F .phi v x) → image F ≡ image (withCounts F g)
+pub counts-ext : (F : Fields) → GoodShape (F .kind .shape) → (g : ℕ → ℕ → ℕ) → ((v x : ℕ) → g v x ≡ F .phi v x) → image F ≡ image (withCounts F g)
 unfolding withCounts
 counts-ext F good g e =
     image-ext F (withCounts F g) good (record {
@@ -73,14 +73,14 @@ counts-ext F good g e =
     })
 
 -- g is the counts of F, but for y at the level j of w
-pub setCount-image : (F : Fields) → Good (F .kind .shape) → (w j y : ℕ) (g : ℕ → ℕ → ℕ) → w < F .kind .shape .most → j < F .kind .shape .levels
+pub setCount-image : (F : Fields) → GoodShape (F .kind .shape) → (w j y : ℕ) (g : ℕ → ℕ → ℕ) → w < F .kind .shape .most → j < F .kind .shape .levels
     → g w j ≡ y → ((v x : ℕ) → (v ≡ w → x ≢ j) → g v x ≡ F .phi v x) → setPhi (F .kind .shape) (image F) w j y ≡ image (withCounts F g)
 unfolding withPhi withCounts
 setCount-image F good w j y g l b on off =
     setPhi-image F good w j y l b ∙ counts-ext (withPhi F w j y) good g (λ v x. entry-is (F .phi) w j y g v x on (off v x))
 
 -- g is the counts of F, but for those that f makes at the levels of w from j up to j + k
-pub recounted-image : (f : ℕ → ℕ) (F : Fields) → Good (F .kind .shape) → (w j k : ℕ) (g : ℕ → ℕ → ℕ) → w < F .kind .shape .most
+pub recounted-image : (f : ℕ → ℕ) (F : Fields) → GoodShape (F .kind .shape) → (w j k : ℕ) (g : ℕ → ℕ → ℕ) → w < F .kind .shape .most
     → j + k ≤ F .kind .shape .levels → ((x : ℕ) → j ≤ x → x < j + k → g w x ≡ f (F .phi w x))
     → ((v x : ℕ) → (v ≡ w → j ≤ x → x < j + k → ⊥) → g v x ≡ F .phi v x) → recounted (F .kind .shape) f (image F) w j k ≡ image (withCounts F g)
 unfolding recounted withPhi withCounts

@@ -11,7 +11,7 @@ use lib.ListN.{length}
 use lib.Bits.{bitAnd}
 use lib.Count.{trailingZeros}
 use Rattle.model.specs.Counting.{count}
-use Rattle.model.specs.Shape.{Shape, Good}
+use Rattle.model.specs.Shape.{Shape, GoodShape}
 use Rattle.model.specs.State.{State}
 use Rattle.model.specs.Bytes.{rankAt, image, write}
 use Rattle.model.specs.Moves.{ownedBy}
@@ -50,11 +50,11 @@ pub record Handing (s : State) (i v k h₀ b₀ : ℕ) (bs : List ℕ) (h b g x 
   pub done : Done s i v k h₀ b₀ bs h b g at
 
 module _ {s : State} {i v k h₀ b₀ : ℕ} {bs : List ℕ} {h b g m : ℕ} (d : Done s i v k h₀ b₀ bs h b g m) where
-  pub done-sized : Good (s .kind .shape) → Sized (s .kind .shape) bs
+  pub done-sized : GoodShape (s .kind .shape) → Sized (s .kind .shape) bs
   unfolding ownersOf
   done-sized good = ap length (d .bytes) ∙ image-length (ownersOf s (gains v (going s i v k m) (s .owns))) good
 
-  pub done-rank : Good (s .kind .shape) → (w : ℕ) → w < s .kind .shape .most → rankAt bs w ≡ s .rank w
+  pub done-rank : GoodShape (s .kind .shape) → (w : ℕ) → w < s .kind .shape .most → rankAt bs w ≡ s .rank w
   unfolding ownersOf
   done-rank good w l = ap (λ (x : List ℕ). rankAt x w) (d .bytes) ∙ rank-image (ownersOf s (gains v (going s i v k m) (s .owns))) good w l
 
@@ -80,7 +80,7 @@ module _ {s : State} {i v k h₀ b₀ : ℕ} {bs : List ℕ} {h b g m : ℕ} (d 
 
 -- an edge passes
 module _ {s : State} {i v k h₀ b₀ : ℕ} {bs : List ℕ} {h b g t : ℕ} (d : Done s i v k h₀ b₀ bs h b g t) (owned : T (s .owns v (64 * k + t))) where
-  pub done-yes : Good (s .kind .shape) → v < s .kind .shape .most → 64 * k + t < s .kind .shape .most → s .rank (64 * k + t) ≡ suc i
+  pub done-yes : GoodShape (s .kind .shape) → v < s .kind .shape .most → 64 * k + t < s .kind .shape .most → s .rank (64 * k + t) ≡ suc i
       → {cs : List ℕ} → cs ≡ own (s .kind .shape) bs (64 * k + t) v
       → {h′ b′ : ℕ} → h′ ≡ suc h → b′ ≡ b → Done s i v k h₀ b₀ cs h′ b′ g (suc t)
   done-yes good l c e {cs} q more same =

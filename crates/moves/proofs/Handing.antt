@@ -6,7 +6,7 @@ use mathlib.Core.Bool.{Bool, true, false, _&&_, _||_}
 use Prim.Native.Nat.{ℕ, suc, _+_, _*_, _^_, _≤_, _<_}
 use lib.Dec.{T, eqb, leb, eqb→eq, leb→le, le→leb, lt→ltb, ltb→lt, not-T, T-not}
 use Rattle.model.specs.Counting.{upd}
-use Rattle.model.specs.Shape.{Shape, Good}
+use Rattle.model.specs.Shape.{Shape, GoodShape}
 use Rattle.model.specs.State.{State}
 use Rattle.model.specs.Bytes.{image}
 use Rattle.model.specs.Parts.{bitOf}
@@ -119,7 +119,7 @@ gains-more v w p q owns here f g = fun-ext (λ x. fun-ext (λ y. elim (eq? x w) 
       | inr a ↦ gains-old v p owns x y (gains-else v q owns x y (λ b c. a (and-intro (eqb y v) _ (true-T (eqb-yes y v b)) c)) t)
     ]
 
-pub own-gains : (s : State) → Good (s .kind .shape) → (v w : ℕ) (p q : ℕ → Bool) → v < s .kind .shape .most → w < s .kind .shape .most → T (q w)
+pub own-gains : (s : State) → GoodShape (s .kind .shape) → (v w : ℕ) (p q : ℕ → Bool) → v < s .kind .shape .most → w < s .kind .shape .most → T (q w)
     → ((x : ℕ) → T (p x) → T (q x)) → ((x : ℕ) → T (q x) → x ≢ w → T (p x))
     → own (s .kind .shape) (image (ownersOf s (gains v p (s .owns)))) w v ≡ image (ownersOf s (gains v q (s .owns)))
 unfolding ownersOf withOwns

@@ -7,7 +7,7 @@ use native.Mathlib.Omega.{arith}
 use lib.Dec.{T, ltb, ltb→lt}
 use lib.ListN.{length}
 use Rattle.model.specs.Counting.{count}
-use Rattle.model.specs.Shape.{Shape, Good}
+use Rattle.model.specs.Shape.{Shape, GoodShape}
 use Rattle.model.specs.State.{base, State, phi, edges}
 use Rattle.model.specs.Bytes.{sizeAt, edgesAt, rankAt, mateAt, phiAt, ownsAt, mateEntry, read, write}
 use Rattle.model.specs.Valid.{Valid}
@@ -21,8 +21,8 @@ use Rattle.layout.specs.Rows.{degreeAt, NthOwned}
 use Rattle.moves.specs.Proper.{Proper, Ordered, Held}
 
 -- what a proper state says of its shape, said of S
-pub proper-good : {S : Shape} {s : State} → Proper S s → Good S
-proper-good p = subst Good (p .shape) (p .good)
+pub proper-good : {S : Shape} {s : State} → Proper S s → GoodShape S
+proper-good p = subst GoodShape (p .shape) (p .good)
 
 pub proper-room : {S : Shape} {s : State} → Proper S s → base .top < S .levels
 proper-room p = subst (λ (T : Shape). base .top < T .levels) (p .shape) (p .room)
@@ -42,7 +42,7 @@ module _ {S : Shape} (bs : List ℕ) (s : State) (e : bs ≡ write s) (p : Prope
   pub held-of : Held S bs
   held-of = record { written = e ∙ ap write (sym reads-as); proper = subst (Proper S) (sym reads-as) p }
 
-pub valid-proper : {S : Shape} (s : State) → s .kind .shape ≡ S → Good (s .kind .shape) → base .top < s .kind .shape .levels → Valid base s → Proper S s
+pub valid-proper : {S : Shape} (s : State) → s .kind .shape ≡ S → GoodShape (s .kind .shape) → base .top < s .kind .shape .levels → Valid base s → Proper S s
 valid-proper s of good room v = record {
   shape = of;
   good = good;
@@ -61,7 +61,7 @@ pub valid-ordered : (s : State) → Valid base s → Ordered s
 valid-ordered s v = v .owner-high
 
 module _ {S : Shape} {bs : List ℕ} (h : Held S bs) where
-  pub held-good : Good S
+  pub held-good : GoodShape S
   held-good = proper-good (h .proper)
 
   pub held-room : base .top < S .levels

@@ -7,7 +7,7 @@ use Prim.Native.Nat.{ℕ, _≤_, _<_}
 use native.Mathlib.Omega.{arith}
 use lib.Dec.{T, eqb, eqb→eq}
 use Rattle.model.specs.Counting.{upd}
-use Rattle.model.specs.Shape.{Good}
+use Rattle.model.specs.Shape.{GoodShape}
 use Rattle.model.specs.State.{State, edge, phi, edges}
 use Rattle.model.specs.Bytes.{Fields, image, mateEntry, fieldsOf, write}
 use Rattle.model.specs.Moves.{ownedBy}
@@ -30,7 +30,7 @@ unfolding write fieldsOf ownersOf
 owners-same s = refl
 
 -- and with others that leave the edges as they are, the writing of the state with those owners
-pub owners-write : (s : State) → Good (s .kind .shape) → (o : ℕ → ℕ → Bool) → ((v w : ℕ) → edge (reown s o) v w ≡ edge s v w)
+pub owners-write : (s : State) → GoodShape (s .kind .shape) → (o : ℕ → ℕ → Bool) → ((v w : ℕ) → edge (reown s o) v w ≡ edge s v w)
     → image (ownersOf s o) ≡ write (reown s o)
 unfolding write fieldsOf ownersOf reown mateEntry
 owners-write s good o f = image-ext (ownersOf s o) (fieldsOf (reown s o)) good (record {
@@ -48,7 +48,7 @@ owners-write s good o f = image-ext (ownersOf s o) (fieldsOf (reown s o)) good (
 unfoldable passed : ℕ → ℕ → (ℕ → ℕ → Bool) → ℕ → ℕ → Bool
 passed a b o = let q = upd o a (upd (o a) b false) in upd q b (upd (q b) a true)
 
-pass-image : (s : State) → Good (s .kind .shape) → (o : ℕ → ℕ → Bool) (a b : ℕ) → a < s .kind .shape .most → b < s .kind .shape .most
+pass-image : (s : State) → GoodShape (s .kind .shape) → (o : ℕ → ℕ → Bool) (a b : ℕ) → a < s .kind .shape .most → b < s .kind .shape .most
     → own (s .kind .shape) (disown (s .kind .shape) (image (ownersOf s o)) a b) b a ≡ image (ownersOf s (passed a b o))
 unfolding ownersOf passed withOwns
 pass-image s good o a b l k =
@@ -89,7 +89,7 @@ module _ (o : ℕ → ℕ → Bool) (u k : ℕ) (d : u ≢ k) where
         (λ e h. f e (true-T (eqb-yes y k h))) (λ e h. g h (true-T (eqb-yes x k e))))
   ]))
 
-pub pass-in : (s : State) → Good (s .kind .shape) → (o : ℕ → ℕ → Bool) (u k : ℕ) → u < s .kind .shape .most → k < s .kind .shape .most → u ≢ k
+pub pass-in : (s : State) → GoodShape (s .kind .shape) → (o : ℕ → ℕ → Bool) (u k : ℕ) → u < s .kind .shape .most → k < s .kind .shape .most → u ≢ k
     → own (s .kind .shape) (disown (s .kind .shape) (image (ownersOf s o)) k u) u k ≡ image (ownersOf s (ownedOne u k true o))
 pass-in s good o u k l m d = pass-image s good o k u m l ∙ ap (λ (q : ℕ → ℕ → Bool). image (ownersOf s q)) (sym (one-in o u k d))
 

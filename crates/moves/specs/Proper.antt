@@ -4,7 +4,7 @@ use mathlib.Core.Bool.{true}
 use mathlib.Core.List.{List}
 use Prim.Native.Nat.{ℕ, suc, _≤_, _<_}
 use lib.Dec.{T}
-use Rattle.model.specs.Shape.{Shape, Good}
+use Rattle.model.specs.Shape.{Shape, GoodShape}
 use Rattle.model.specs.State.{base, State, near}
 use Rattle.model.specs.Bytes.{read, write}
 use Rattle.model.specs.Counting.{upd}
@@ -14,7 +14,7 @@ use Rattle.model.specs.Change.{reown}
 -- the conditions of a valid state that no step breaks: a good shape with room for the levels, nothing stands past n, ranks and mates are in range, each edge has one owner
 pub record Proper (S : Shape) (s : State) : Type 0 where
   pub shape : s .kind .shape ≡ S
-  pub good : Good (s .kind .shape)
+  pub good : GoodShape (s .kind .shape)
   pub room : base .top < s .kind .shape .levels
   pub few : s .n ≤ s .kind .shape .most
   pub inside : (v w : ℕ) → T (s .owns v w) → (v < s .n) × (w < s .n)

@@ -6,7 +6,7 @@ use Prim.Native.Nat.{ℕ, _<_}
 use lib.Dec.{T, eqb→eq}
 use lib.ListN.{length}
 use Rattle.model.specs.State.{Kind, State, base}
-use Rattle.model.specs.Shape.{Shape, Good, low, rackLength}
+use Rattle.model.specs.Shape.{Shape, GoodShape, low, rackLength}
 use Rattle.model.specs.Bytes.{read, write}
 use Rattle.model.specs.Sound.{sound}
 use Rattle.model.specs.Valid.{IsBytes}
@@ -78,7 +78,7 @@ from-valid s ok (c ∷ cs) =
 
 -- From any sound rack, fresh or not, of any good shape: bs is any list of as many bytes that is sound, and cs any list of changes, each with any
 -- code, any two boards and any word list. The ledger starts from bs and sees the changes alone.
-pub demand-three : (S : Shape) → Good S → base .top < S .levels → (bs : List ℕ) → IsBytes bs → T (sized S bs) → T (sound base S bs) → (cs : List Change)
+pub demand-three : (S : Shape) → GoodShape S → base .top < S .levels → (bs : List ℕ) → IsBytes bs → T (sized S bs) → T (sound base S bs) → (cs : List Change)
     → Demand S (ledgerOf S bs) bs cs
 unfolding sized ledgerOf read
 demand-three S good room bs by sz so cs =

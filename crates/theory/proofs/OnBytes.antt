@@ -8,7 +8,7 @@ use native.Mathlib.Omega.{arith}
 use lib.Dec.{T, eqb, ltb, ltb→lt}
 use lib.ListN.{length}
 use Rattle.model.specs.State.{Kind, State, base, edge, pairs}
-use Rattle.model.specs.Shape.{Shape, Good, low, rackLength}
+use Rattle.model.specs.Shape.{Shape, GoodShape, low, rackLength}
 use Rattle.model.specs.Bytes.{noMate, mateAt, write}
 use Rattle.model.specs.Sound.{sound}
 use Rattle.model.specs.Valid.{Valid}
@@ -28,14 +28,14 @@ use Rattle.theory.proofs.Matching.{base-one, base-pos, pairs-are-edges}
 
 -- a valid state of a rack of a good shape, with room for the levels
 pub record Rack (s : State) : Type 0 where
-  pub good : Good (s .kind .shape)
+  pub good : GoodShape (s .kind .shape)
   pub room : base .top < s .kind .shape .levels
   pub valid : Valid base s
 
 -- the state that a rack of a shape holds
-pub rack-of : {S : Shape} → Good S → base .top < S .levels → (s : State) → S ≡ s .kind .shape → Valid base s → Rack s
+pub rack-of : {S : Shape} → GoodShape S → base .top < S .levels → (s : State) → S ≡ s .kind .shape → Valid base s → Rack s
 rack-of good room s e ok = record {
-  good = subst Good e good;
+  good = subst GoodShape e good;
   room = subst (λ (S : Shape). base .top < S .levels) e room;
   valid = ok;
 }

@@ -1,7 +1,7 @@
 -- `layout::next_owned` meets its contract: the row is lent on as a part of the bytes. Assumes nothing.
 use native.Mathlib.Omega.{arith}
 use Rattle.model.proofs.Shapes.{low-good}
-use Rattle.layout.proofs.Parts.{row-length, row-next}
+use Rattle.layout.proofs.Rows.{row-length, row-next}
 use borrow.Author.Needs.{needs}
 use Rattle.layout.proofs.next_owned.Statement.{statement}
 use Rattle.layout.proofs.next_owned.Tie as tie

@@ -1,7 +1,7 @@
 -- `layout::nth_owned` meets its contract: the row is lent on as a part of the bytes. Assumes nothing.
 use native.Mathlib.Omega.{arith}
 use Rattle.model.proofs.Shapes.{low-good}
-use Rattle.layout.proofs.Parts.{row-length, row-degree, row-nth}
+use Rattle.layout.proofs.Rows.{row-length, row-degree, row-nth}
 use borrow.Author.Needs.{needs}
 use Rattle.layout.proofs.nth_owned.Statement.{statement}
 use Rattle.layout.proofs.nth_owned.Tie as tie

@@ -2,7 +2,7 @@
 use mathlib.Core.Path.{_∙_}
 use native.Mathlib.Omega.{arith}
 use Rattle.model.proofs.Shapes.{low-good}
-use Rattle.layout.proofs.Parts.{row-length, row-owns}
+use Rattle.layout.proofs.Rows.{row-length, row-owns}
 use borrow.Author.Needs.{needs}
 use Rattle.layout.proofs.owns.Statement.{statement}
 use Rattle.layout.proofs.owns.Tie as tie

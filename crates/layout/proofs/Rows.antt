@@ -6,7 +6,7 @@ use native.Mathlib.Omega.{arith}
 use lib.Dec.{T}
 use lib.ListN.{length, getD, take, drop, length-take, length-drop}
 use Rattle.model.specs.Counting.{count}
-use Rattle.model.specs.Shape.{Shape, Good, rowsFrom}
+use Rattle.model.specs.Shape.{Shape, GoodShape, rowsFrom}
 use Rattle.model.specs.Bytes.{ownsAt}
 use Rattle.model.specs.Parts.{bitOf}
 use Rattle.model.proofs.Prefix.{count-ext}
@@ -28,7 +28,7 @@ owns-place S bs v w =
 abbrev rowOf : Shape → List ℕ → ℕ → List ℕ
 rowOf S bs at = take (at + S .row - at) (drop at bs)
 
-module _ {S : Shape} (good : Good S) (bs : List ℕ) {v at : ℕ} (sized : Sized S bs) (place : NumberAt S (rowsFrom S) (S .row) v at) where
+module _ {S : Shape} (good : GoodShape S) (bs : List ℕ) {v at : ℕ} (sized : Sized S bs) (place : NumberAt S (rowsFrom S) (S .row) v at) where
   pub row-length : length (rowOf S bs at) ≡ S .row
   row-length = simp (length-take, length-drop) (omega (arith, place .within))
 
