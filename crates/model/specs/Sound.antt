@@ -9,7 +9,7 @@ use Rattle.model.specs.Shape.{Shape}
 use Rattle.model.specs.State.{Rules, edge, phi, edges}
 use Rattle.model.specs.Bytes.{noMate, sizeAt, edgesAt, rankAt, mateAt, phiAt, ownsAt, read}
 
--- "bytes 4 to 7 are zero": in the larger rack 4 and 5, since 6 and 7 are of the number of edges
+-- "bytes 4 to 7 are zero": 4 and 5, and of 6 and 7 those that are spare
 unfoldable pub spareZero : Shape → List ℕ → Bool
 spareZero S bs = every (λ k. eqb (getD bs (4 + k) 0) 0) (2 + S .spare)
 
