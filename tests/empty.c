@@ -74,7 +74,7 @@ static void with(void *any)
 {
     static const uint8_t text[] = "(rack (boards 4))\n";
     static const uint32_t words[] = {0, 0};
-    uint32_t number, yes = UNWRITTEN, mate = UNWRITTEN, linked = UNWRITTEN;
+    uint32_t number, yes = UNWRITTEN, mate = UNWRITTEN, linked = UNWRITTEN, standing = UNWRITTEN;
     int32_t level = UNWRITTEN;
 
     refused(pairing_make(any, 0, 4), PAIRING_BAD_LENGTH, 0);
@@ -86,6 +86,8 @@ static void with(void *any)
     refused(number, PAIRING_BAD_LENGTH, mate);
     number = pairing_linked(any, 0, 0, 1, &linked);
     refused(number, PAIRING_BAD_LENGTH, linked);
+    number = pairing_roster(any, 0, -1, &standing);
+    refused(number, PAIRING_BAD_LENGTH, standing);
     change(any, 0, words, 2, PAIRING_BAD_LENGTH);
     change(rack, sizeof rack, any, 0, PAIRING_TOO_FEW_WORDS);
     change(any, 0, any, 0, PAIRING_BAD_LENGTH);

@@ -32,7 +32,8 @@ static char text[PAIRING_TEXT_LIMIT + 1];
 static uint32_t words[MOST / 2];
 static size_t len, text_len, space_len, count;
 static uint32_t n, code, a, b;
-static uint32_t number, yes, mate, linked, draws, falls, pairs;
+static int32_t at_level;
+static uint32_t number, yes, mate, linked, standing, draws, falls, pairs;
 static int32_t level;
 static size_t line, length;
 
@@ -63,6 +64,11 @@ static void call_mate(void)
 static void call_linked(void)
 {
     number = pairing_linked(rack, len, a, b, &linked);
+}
+
+static void call_roster(void)
+{
+    number = pairing_roster(rack, len, at_level, &standing);
 }
 
 static void call_change(void)
@@ -187,14 +193,18 @@ static void audit(void)
 {
     expect(call_audit, PAIRING_OK);
     same("the audit of the densest rack", yes, 1);
+    rack[PAIRING_ROSTERS - 1] ^= 1;
+    expect(call_audit, PAIRING_OK);
+    same("the audit of it with a bit of a row turned", yes, 0);
+    rack[PAIRING_ROSTERS - 1] ^= 1;
     rack[sizeof rack - 1] ^= 1;
     expect(call_audit, PAIRING_OK);
-    same("the audit of it with a bit turned", yes, 0);
+    same("the audit of it with a bit of a roster turned", yes, 0);
     len--;
     expect(call_audit, PAIRING_BAD_LENGTH);
 }
 
-/* What the queries have in common: one on each vertex of the densest rack, and one for each number. */
+/* What the queries on vertices have in common: one on each vertex of the densest rack, and one for each number. */
 static void (*asked)(void);
 
 static void query(void)
@@ -209,6 +219,29 @@ static void query(void)
     expect(asked, PAIRING_UNSOUND);
     len--;
     expect(asked, PAIRING_BAD_LENGTH);
+}
+
+/* The vertices at each level of the densest rack, at levels that there aren't, and one query for each number. */
+static void roster(void)
+{
+    static const int32_t none[] = {INT32_MIN, -3, -2, 4, 5, 255, INT32_MAX};
+    uint32_t all = 0;
+    size_t k;
+
+    for (at_level = -1; at_level <= 3; at_level++) {
+        expect(call_roster, PAIRING_OK);
+        all += standing;
+    }
+    same("the vertices at all levels", all, MOST);
+    for (k = 0; k < sizeof none / sizeof *none; k++) {
+        at_level = none[k];
+        expect(call_roster, PAIRING_OK);
+        same("the vertices at no level", standing, 0);
+    }
+    rack[sizeof rack - 1] ^= 1;
+    expect(call_roster, PAIRING_UNSOUND);
+    len--;
+    expect(call_roster, PAIRING_BAD_LENGTH);
 }
 
 /* A trace text on so many vertices, as long as can be, in which edges among a few of them come and go. */
@@ -297,6 +330,7 @@ int main(void)
         {"level", query, call_level, PAIRING_STACK_CALL},
         {"mate", query, call_mate, PAIRING_STACK_CALL},
         {"linked", query, call_linked, PAIRING_STACK_CALL},
+        {"roster", roster, NULL, PAIRING_STACK_CALL},
         {"run", run, NULL, PAIRING_STACK_RUN},
     };
     size_t empty = depth(nothing), used, k;

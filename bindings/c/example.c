@@ -1,6 +1,6 @@
 /*
- * The worked example of document 01 by the calls of the core: five changes on a rack of 4 boards, then all levels, mates and links, and the
- * audit, at last of a damaged rack; then the same changes as a trace text, run to its record, and the text with a line that doesn't fit. It
+ * The worked example of document 01 by the calls of the core: five changes on a rack of 4 boards, then all levels, mates, links and rosters,
+ * and the audit, at last of a damaged rack; then the same changes as a trace text, run to its record, and the text with a line that doesn't fit. It
  * prints what example.out holds.
  *
  * cc -std=c99 -o example example.c DIRECTORY/libpairing.a
@@ -64,6 +64,24 @@ static void links(void)
                 printf("link %" PRIu32 "-%" PRIu32 "\n", v, w);
 }
 
+/* How many boards stand at a level, and who, from its roster. */
+static void roster(int32_t level)
+{
+    const uint8_t *bytes = rack + PAIRING_ROSTERS + PAIRING_ROSTER_BYTES * (level + 1);
+    uint32_t v, count;
+    uint32_t number = pairing_roster(rack, sizeof rack, level, &count);
+
+    if (number != PAIRING_OK) {
+        printf("level %" PRId32 ": number %" PRIu32 "\n", level, number);
+        return;
+    }
+    printf("level %" PRId32 ": boards %" PRIu32 "%s", level, count, count == 0 ? "" : ":");
+    for (v = 0; v < BOARDS; v++)
+        if (bytes[v / 8] >> v % 8 & 1)
+            printf(" %" PRIu32, v);
+    printf("\n");
+}
+
 static void audit(void)
 {
     uint32_t yes;
@@ -90,6 +108,7 @@ static void run(const char *text, size_t text_len)
 int main(void)
 {
     uint32_t v;
+    int32_t level;
 
     audit();
     printf("make: number %" PRIu32 "\n", pairing_make(rack, sizeof rack, BOARDS));
@@ -101,10 +120,13 @@ int main(void)
     for (v = 0; v <= BOARDS; v++)
         board(v);
     links();
+    for (level = -1; level <= 3; level++)
+        roster(level);
     audit();
     rack[4] = 1;
     audit();
     board(0);
+    roster(0);
     run(trace, strlen(trace));
     audit();
     run(trace, strlen(trace) - 1);

@@ -1,5 +1,5 @@
 /*
- * The pairing core: a fully dynamic maximal matching on up to 256 vertices, kept in 9,992 bytes that the caller lends.
+ * The pairing core: a fully dynamic maximal matching on up to 256 vertices, kept in 10,152 bytes that the caller lends.
  *
  * Document 01 calls a vertex a board, an edge a link, and the bytes a rack; a vertex without a mate is free ("idle").
  *
@@ -19,7 +19,15 @@ extern "C" {
 #endif
 
 /* The length of a rack in bytes; any alignment will do. */
-#define PAIRING_RACK_BYTES 9992
+#define PAIRING_RACK_BYTES 10152
+
+/*
+ * Who stands at a level, -1 to 3, without asking for each vertex: vertex v does if bit v mod 8 (bit 0 lowest) of byte v div 8 is set in that
+ * level's roster, the PAIRING_ROSTER_BYTES bytes of the rack from PAIRING_ROSTERS + PAIRING_ROSTER_BYTES * (level + 1) on. The calls keep the
+ * rosters; a display only reads them.
+ */
+#define PAIRING_ROSTERS 9992
+#define PAIRING_ROSTER_BYTES 32
 
 /* The most vertices. */
 #define PAIRING_MOST_VERTICES 256
@@ -44,7 +52,7 @@ extern "C" {
 
 /* The numbers. 2 to 4 are met only by the running of a trace text. */
 #define PAIRING_OK 0
-#define PAIRING_BAD_LENGTH 1       /* The rack buffer isn't 9,992 bytes. */
+#define PAIRING_BAD_LENGTH 1       /* The rack buffer isn't 10,152 bytes. */
 #define PAIRING_LONG_TEXT 2        /* The trace text is over 16,384 bytes. */
 #define PAIRING_SHORT_SPACE 3      /* The record space is under 65,536 bytes. */
 #define PAIRING_BAD_LINE 4         /* The trace text doesn't fit the grammar. */
@@ -86,6 +94,12 @@ uint32_t pairing_mate(const uint8_t *rack, size_t len, uint32_t v, uint32_t *mat
  * Numbers: 0, 1, 6, 8, 9.
  */
 uint32_t pairing_linked(const uint8_t *rack, size_t len, uint32_t v, uint32_t w, uint32_t *linked);
+
+/*
+ * The number of vertices at a level, 0 for a level outside -1 to 3. Who they are stands in the level's roster (PAIRING_ROSTERS).
+ * Numbers: 0, 1, 6.
+ */
+uint32_t pairing_roster(const uint8_t *rack, size_t len, int32_t level, uint32_t *count);
 
 /*
  * Adds (code 1) or drops (code 2) the edge a-b and mends the matching. The words decide which neighbours are drawn; at least n div 2 of them

@@ -81,6 +81,15 @@ pub fn with_edges(size: Size) -> RackBytes {
     rack
 }
 
+/// Each level of a rack of 256 vertices, with how many are there by their ranks.
+pub fn counts_at_levels(rack: &RackBytes) -> [(i32, u32); 5] {
+    let count = |level: i32| {
+        let ranks = rack[8..264].iter();
+        ranks.filter(|&&rank| i32::from(rank) == level + 1).count()
+    };
+    [-1, 0, 1, 2, 3].map(|level| (level, count(level) as u32))
+}
+
 /// A rack for each vertex that has a mate on it, with the drop of that pair.
 pub struct Parted {
     pub racks: Vec<(RackBytes, Change)>,

@@ -4,18 +4,19 @@
 //! To copy or clear bytes takes libc a few instructions more or less by where
 //! they lie. What would move the racks of other kinds is not inlined.
 
-use crate::cases::{with_edges, Parted, Series, Size};
+use crate::cases::{counts_at_levels, with_edges, Parted, Series, Size};
 use crate::side::Side;
 use crate::texts::Text;
 use std::hint::black_box;
 use tuned::{RACK_BYTES, RECORD_SPACE};
 
 /// Makes the calls and gives how many calls, or changes of runs, they were.
-/// The size is the edges of a rack of 256 vertices for "audit" and "parted", or
-/// else the vertices.
+/// The size is the edges of a rack of 256 vertices for "audit", "roster" and
+/// "parted", or else the vertices.
 pub fn once(side: Side, kind: &str, size: usize, calls: usize) -> Result<usize, String> {
     match kind {
         "audit" | "half-audit" | "full-audit" => Ok(audits(side, sized(kind, size), calls)),
+        "roster" => Ok(rosters(side, sized(kind, size), calls)),
         "direct" => direct(side, size, calls),
         "before" => before(side, size, calls),
         "parted" | "half" | "full" => parted(side, sized(kind, size), calls),
@@ -27,7 +28,7 @@ pub fn once(side: Side, kind: &str, size: usize, calls: usize) -> Result<usize, 
     }
 }
 
-/// The size of the rack for a kind of audits or drops.
+/// The size of the rack for a kind of audits, queries or drops.
 fn sized(kind: &str, size: usize) -> Size {
     match kind {
         "half" | "half-audit" => Size::half(size),
@@ -47,6 +48,20 @@ fn audits(side: Side, size: Size, calls: usize) -> usize {
     measured(|| {
         for _ in 0..calls {
             assert!(side.audit(black_box(&rack)), "a sound rack");
+        }
+    });
+    calls
+}
+
+/// Queries for how many vertices are at a level, at each in turn.
+#[inline(never)]
+fn rosters(side: Side, size: Size, calls: usize) -> usize {
+    let rack = with_edges(size);
+    let counts = counts_at_levels(&rack);
+    measured(|| {
+        for (level, count) in counts.iter().cycle().take(calls) {
+            let came = side.roster(black_box(&rack), *level);
+            assert_eq!(came, Some(*count), "the vertices at level {level}");
         }
     });
     calls

@@ -10,7 +10,7 @@ const SOUND: Audit = Audit {
 };
 
 /// The proved core, the tuned program, or the tuned program without the audit
-/// that stands before each change.
+/// that stands before each change and roster query.
 #[derive(Clone, Copy, Debug, PartialEq, Eq)]
 pub enum Side {
     Core,
@@ -33,6 +33,15 @@ impl Side {
         match self {
             Side::Core => pairing::audit(rack) == SOUND,
             _ => tuned::audit(rack),
+        }
+    }
+
+    /// How many vertices are at a level of a sound rack.
+    pub fn roster(self, rack: &RackBytes, level: i32) -> Option<u32> {
+        match self {
+            Side::Core => pairing::roster(rack, level).result().ok(),
+            Side::Tuned => tuned::roster(rack, level),
+            Side::Bare => Some(tuned::roster_sound(rack, level)),
         }
     }
 

@@ -1,6 +1,6 @@
 //! The table of times: both sides in one run, on the same racks.
 
-use crate::cases::{with_edges, Parted, Series, Size, DENSEST};
+use crate::cases::{counts_at_levels, with_edges, Parted, Series, Size, DENSEST};
 use crate::side::Side;
 use crate::texts::{Text, TEXTS};
 use std::hint::black_box;
@@ -12,7 +12,7 @@ use tuned::{RackBytes, RACK_BYTES, RECORD_SPACE};
 const TURNS: usize = 15;
 const SECONDS: u64 = 4;
 
-/// Audits and runs in one turn.
+/// Audits or roster queries, and runs, in one turn.
 const AUDITS: usize = 200;
 const RUNS: usize = 10;
 
@@ -28,6 +28,10 @@ pub fn print() {
     for edges in [0, 256, 1_000, 2_000, 4_000, 16_000, DENSEST] {
         let name = format!("audit, 256 / {edges} links");
         line(&name, audits(&with_edges(Size::of_256(edges))));
+    }
+    for edges in [256, DENSEST] {
+        let name = format!("roster, 256 / {edges} links");
+        line(&name, rosters(&with_edges(Size::of_256(edges))));
     }
     for n in [16, 64, 256] {
         let series = Series::of(n);
@@ -45,7 +49,8 @@ pub fn print() {
         };
         line(&name, runs(&text));
     }
-    println!("bare: the tuned change without its audit; a run audits no change; parted: the drop of a pair");
+    println!("bare: the tuned change or roster query without its audit; a run audits no change; parted: the drop of a pair");
+    println!("roster: the query for the number of boards at a level");
     println!("refused: a run in which four of five changes are refused; words: one with 128 words of ten digits a change;");
     println!("line: a whole run of a text of one line");
     if cfg!(not(target_feature = "popcnt")) {
@@ -96,6 +101,21 @@ fn audits(rack: &RackBytes) -> Times {
             }
         };
         (side != Side::Bare).then(|| timed(AUDITS, work))
+    })
+}
+
+/// Queries for how many vertices are at a level, at each in turn.
+#[inline(never)]
+fn rosters(rack: &RackBytes) -> Times {
+    let counts = counts_at_levels(rack);
+    best(|side| {
+        let time = timed(AUDITS, || {
+            for (level, count) in counts.iter().cycle().take(AUDITS) {
+                let came = side.roster(black_box(rack), *level);
+                assert_eq!(came, Some(*count), "the vertices at level {level}");
+            }
+        });
+        Some(time)
     })
 }
 

@@ -1,15 +1,19 @@
-//! The audit: whether any 9,992 bytes are a sound rack.
+//! The audit: whether any 10,152 bytes are a sound rack.
 
 use crate::bits::{self, Row};
-use crate::layout::{edges, linked, mates, rank, vertices, RackBytes, FREE, MATES_AT, RANKS_AT};
-use crate::sets::Sets;
-use crate::{few, many};
+use crate::layout::{edges, linked, mates, rank, roster, vertices, RackBytes, FREE};
+use crate::{few, many, rosters};
 
 /// Whether n vertices have so many edges that work on whole rows takes fewer
-/// instructions than going through the edges one by one. The figures were
-/// found by measuring.
+/// instructions than going through the edges one by one. Such work goes in
+/// blocks of 64 vertices. The figures were found by measuring.
 fn many_edges(rack: &RackBytes, n: usize) -> bool {
-    usize::from(edges(rack)) >= 500 + 5 * n
+    let least = match n {
+        0..=64 => 760,
+        65..=128 => 900,
+        _ => 1_450,
+    };
+    edges(rack) >= least
 }
 
 /// Whether these bytes are a sound rack. Any bytes may be asked about.
@@ -20,24 +24,23 @@ pub fn audit(rack: &RackBytes) -> bool {
 /// The number of pairs; none if the rack isn't sound.
 pub fn pairs_if_sound(rack: &RackBytes) -> Option<u32> {
     let n = vertices(rack);
-    if !(1..=256).contains(&n) || rack[4..8] != [0; 4] || !unranked_from(rack, n) {
+    if !(1..=256).contains(&n) || rack[4..8] != [0; 4] {
         return None;
     }
-    let sets = Sets::of(rack, n)?;
-    let pairs = pairs_if_right(rack, &sets.ranked)?;
+    let vertices = bits::below(n);
+    if !rosters::are_right(rack, &vertices) {
+        return None;
+    }
+    let unranked = roster(rack, 0);
+    let ranked = [0, 1, 2, 3].map(|k| vertices[k] & !unranked[k]);
+    let pairs = pairs_if_right(rack, &ranked)?;
+    let ownable = rosters::ownable(rack, &vertices);
     let right = if many_edges(rack, n) {
-        many::edges_are_right(rack, n, &sets.ownable)
+        many::edges_are_right(rack, n, &ownable)
     } else {
-        few::edges_are_right(rack, &sets.ownable)
+        few::edges_are_right(rack, &ownable)
     };
     right.then_some(pairs)
-}
-
-/// Whether the ranks from vertex n on are 0. The mates, counts and rows there
-/// are looked at together with those of all other vertices of rank 0.
-fn unranked_from(rack: &RackBytes, n: usize) -> bool {
-    let ranks = &rack[RANKS_AT + n..MATES_AT];
-    ranks.iter().fold(0, |all, rank| all | rank) == 0
 }
 
 /// The number of pairs, if mates name each other and are linked on one rank,

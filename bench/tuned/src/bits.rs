@@ -5,16 +5,12 @@ pub type Row = [u64; 4];
 
 pub const EMPTY: Row = [0; 4];
 
-pub fn remove(row: &mut Row, v: u8) {
-    row[usize::from(v >> 6)] &= !(1 << (v & 63));
-}
-
 pub fn size(row: &Row) -> u32 {
     row.iter().map(|word| word.count_ones()).sum()
 }
 
 /// The lowest vertex in word k of a set.
-fn vertex(k: usize, word: u64) -> u8 {
+pub fn vertex(k: usize, word: u64) -> u8 {
     (64 * k) as u8 | word.trailing_zeros() as u8
 }
 

@@ -1,7 +1,8 @@
 //! One change on a rack, turned back by the first number that fits.
 
 use crate::audit::pairs_if_sound;
-use crate::layout::{linked, vertices, RackBytes, MATES_AT, RANKS_AT};
+use crate::bits;
+use crate::layout::{linked, roster, vertices, RackBytes};
 use crate::moves::{self, Tally, Words};
 
 /// The number and figures of a change; a refused one has no other figures.
@@ -98,12 +99,9 @@ pub fn allowed(rack: &RackBytes, code: u32, a: u32, b: u32, words: usize) -> Res
     }
 }
 
-/// The pairs of a sound rack: its mated vertices are those above rank 0. Half
-/// of them at a time fit in a byte, and bytes are added sixteen at once.
+/// The pairs of a sound rack: its mated vertices are those that stand above rank 0.
 fn pairs(rack: &RackBytes) -> u32 {
-    let halves = rack[RANKS_AT..MATES_AT].chunks_exact(128);
-    let mated = halves.map(|ranks| ranks.iter().map(|&rank| u8::from(rank != 0)).sum::<u8>());
-    mated.map(u32::from).sum::<u32>() / 2
+    (vertices(rack) as u32 - bits::size(&roster(rack, 0))) / 2
 }
 
 /// The words lent to a change.

@@ -1,7 +1,9 @@
 //! The edges of a rack with few of them, one by one.
 
 use crate::bits::{self, Row};
-use crate::layout::{edges, owner_bits, word, RackBytes, MATES_AT, PHI_AT, RANKS_AT, ROWS_AT};
+use crate::layout::{
+    edges, owner_bits, word, RackBytes, MATES_AT, PHI_AT, RANKS_AT, ROSTERS_AT, ROWS_AT,
+};
 
 /// The bits that no phi below its threshold has.
 pub const AT_THRESHOLD: u32 = 0xc0f0_fcff;
@@ -29,7 +31,7 @@ pub fn edges_are_right(rack: &RackBytes, ownable: &[Row; 8]) -> bool {
         twice: 0,
     };
     let groups = rack[RANKS_AT..MATES_AT].chunks_exact(8);
-    let rows = rack[ROWS_AT..].chunks_exact(256);
+    let rows = rack[ROWS_AT..ROSTERS_AT].chunks_exact(256);
     for (group, (ranks, rows)) in groups.zip(rows).enumerate() {
         if word(ranks) == 0 {
             tally.unranked(rows);

@@ -40,3 +40,9 @@ pub fn half_add(plane: &mut Lanes, a: Lanes) -> Lanes {
 pub fn or(a: Lanes, b: Lanes) -> Lanes {
     [a[0] | b[0], a[1] | b[1]]
 }
+
+/// Both words, with the same done to each.
+#[inline(always)]
+pub fn each(lanes: Lanes, done: impl Fn(u64) -> u64) -> Lanes {
+    [done(lanes[0]), done(lanes[1])]
+}

@@ -1,11 +1,11 @@
 //! The rack bytes as fields. A vertex is a `u8`, so that every offset is known
 //! to lie within the bytes and no access is tested.
 
-use crate::bits::Row;
+use crate::bits::{self, Row};
 use crate::lanes::Lanes;
 
 /// The length of a rack.
-pub const RACK_BYTES: usize = 9_992;
+pub const RACK_BYTES: usize = 10_152;
 
 /// The bytes of a rack.
 pub type RackBytes = [u8; RACK_BYTES];
@@ -25,12 +25,14 @@ pub const RANKS_AT: usize = 8;
 pub const MATES_AT: usize = 264;
 pub const PHI_AT: usize = 776;
 pub const ROWS_AT: usize = 1_800;
+pub const ROSTERS_AT: usize = 9_992;
 
 /// Makes the bytes a rack of n vertices without edges, n from 1 to 256.
 pub fn make(rack: &mut RackBytes, n: u16) {
     rack.fill(0);
     rack[..2].copy_from_slice(&n.to_le_bytes());
     rack[MATES_AT..PHI_AT].fill(255);
+    put_set(rack, ROSTERS_AT, &bits::below(usize::from(n)));
 }
 
 fn two(rack: &RackBytes, at: usize) -> u16 {
@@ -59,8 +61,15 @@ pub fn rank(rack: &RackBytes, v: u8) -> u8 {
     rack[RANKS_AT + usize::from(v)]
 }
 
-pub fn set_rank(rack: &mut RackBytes, v: u8, rank: u8) {
-    rack[RANKS_AT + usize::from(v)] = rank;
+/// Vertex v goes from one rank to another, and so out of one roster and into
+/// another.
+pub fn set_rank(rack: &mut RackBytes, v: u8, from: u8, to: u8) {
+    rack[RANKS_AT + usize::from(v)] = to;
+    let (byte, bit) = place(v);
+    let rosters = &mut rack[ROSTERS_AT..];
+    for rank in [from, to] {
+        rosters[32 * usize::from(rank) + byte] ^= bit;
+    }
 }
 
 pub fn mate(rack: &RackBytes, v: u8) -> u16 {
@@ -104,40 +113,69 @@ pub fn word(bytes: &[u8]) -> u64 {
     u64::from_le_bytes(eight)
 }
 
-/// The out-row of a vertex.
-pub fn row(rack: &RackBytes, v: u8) -> Row {
-    let at = ROWS_AT + 32 * usize::from(v);
+/// The set of vertices that begins at an offset.
+fn set_at(rack: &RackBytes, at: usize) -> Row {
     [0, 8, 16, 24].map(|k| word(&rack[at + k..at + k + 8]))
 }
 
-/// Half h of the out-row of a vertex.
-pub fn half(rack: &RackBytes, v: u8, h: usize) -> Lanes {
-    let at = ROWS_AT + 32 * usize::from(v) + 16 * (h & 1);
-    [0, 8].map(|k| word(&rack[at + k..at + k + 8]))
-}
-
-pub fn set_row(rack: &mut RackBytes, v: u8, row: &Row) {
-    let at = ROWS_AT + 32 * usize::from(v);
-    for (k, word) in row.iter().enumerate() {
+fn put_set(rack: &mut RackBytes, at: usize, set: &Row) {
+    for (k, word) in set.iter().enumerate() {
         rack[at + 8 * k..at + 8 * k + 8].copy_from_slice(&word.to_le_bytes());
     }
 }
 
-/// The byte of row v in which bit w stands, and that bit.
-fn place(v: u8, w: u8) -> (usize, u8) {
-    let at = ROWS_AT + 32 * usize::from(v) + usize::from(w >> 3);
-    (at, 1 << (w & 7))
+/// Half h of the set that begins at an offset.
+fn half_at(rack: &RackBytes, at: usize, h: usize) -> Lanes {
+    let at = at + 16 * (h & 1);
+    [0, 8].map(|k| word(&rack[at + k..at + k + 8]))
+}
+
+fn row_at(v: u8) -> usize {
+    ROWS_AT + 32 * usize::from(v)
+}
+
+fn roster_at(rank: u8) -> usize {
+    ROSTERS_AT + 32 * usize::from(rank)
+}
+
+/// The out-row of a vertex.
+pub fn row(rack: &RackBytes, v: u8) -> Row {
+    set_at(rack, row_at(v))
+}
+
+pub fn set_row(rack: &mut RackBytes, v: u8, row: &Row) {
+    put_set(rack, row_at(v), row);
+}
+
+/// The roster of a rank: the vertices that stand on it.
+pub fn roster(rack: &RackBytes, rank: u8) -> Row {
+    set_at(rack, roster_at(rank))
+}
+
+/// Half h of the out-row of a vertex.
+pub fn half(rack: &RackBytes, v: u8, h: usize) -> Lanes {
+    half_at(rack, row_at(v), h)
+}
+
+/// Half h of the roster of a rank.
+pub fn roster_half(rack: &RackBytes, rank: u8, h: usize) -> Lanes {
+    half_at(rack, roster_at(rank), h)
+}
+
+/// The byte of a set in which a vertex stands, and its bit.
+fn place(v: u8) -> (usize, u8) {
+    (usize::from(v >> 3), 1 << (v & 7))
 }
 
 /// The byte of row v in which bit w stands.
 pub fn owner_bits(rack: &RackBytes, v: u8, w: u8) -> u8 {
-    rack[place(v, w).0]
+    rack[row_at(v) + place(w).0]
 }
 
 /// Whether v owns the edge v-w.
 pub fn owns(rack: &RackBytes, v: u8, w: u8) -> bool {
-    let (at, bit) = place(v, w);
-    rack[at] & bit != 0
+    let (byte, bit) = place(w);
+    rack[row_at(v) + byte] & bit != 0
 }
 
 pub fn linked(rack: &RackBytes, v: u8, w: u8) -> bool {
@@ -146,19 +184,31 @@ pub fn linked(rack: &RackBytes, v: u8, w: u8) -> bool {
 
 /// Vertex v becomes the owner of v-w.
 pub fn own(rack: &mut RackBytes, v: u8, w: u8) {
-    let (at, bit) = place(v, w);
-    rack[at] |= bit;
+    let (byte, bit) = place(w);
+    rack[row_at(v) + byte] |= bit;
 }
 
 /// Vertex v is no longer the owner of v-w.
 pub fn disown(rack: &mut RackBytes, v: u8, w: u8) {
-    let (at, bit) = place(v, w);
-    rack[at] &= !bit;
+    let (byte, bit) = place(w);
+    rack[row_at(v) + byte] &= !bit;
 }
 
 /// Whether one of the eight vertices of a group (0 to 31) owns its edge to u.
-pub fn any_owner(rack: &RackBytes, u: u8, group: u8) -> bool {
+fn any_owner(rack: &RackBytes, u: u8, group: u8) -> bool {
     let at = ROWS_AT + 256 * usize::from(group & 31) + usize::from(u >> 3);
     let any = (0..8).fold(0, |any, k| any | rack[at + 32 * k]);
     any & (1 << (u & 7)) != 0
+}
+
+/// Word k of a set without the groups of eight in which none owns its edge to u.
+#[inline(never)]
+pub fn near_owners(rack: &RackBytes, u: u8, k: usize, word: u64) -> u64 {
+    let mut near = word;
+    for group in 0..8 {
+        if !any_owner(rack, u, 8 * k as u8 + group) {
+            near &= !(255 << (8 * group));
+        }
+    }
+    near
 }

@@ -3,89 +3,106 @@
 use crate::bits::{self, Row, EMPTY};
 use crate::blocks::no_edge_has_two_owners;
 use crate::few::{AT_THRESHOLD, COUNTED};
-use crate::layout::{edges, phi, word, RackBytes, RANKS_AT, ROWS_AT};
+use crate::layout::{edges, phi, roster, row, RackBytes, ROSTERS_AT, ROWS_AT};
 use crate::planes::Columns;
 
 /// The same as in `few`. Phi of a vertex at j is the size of its row and the
 /// number of its owners of rank up to j; the owners are counted for all
 /// vertices at once, rank by rank.
 pub fn edges_are_right(rack: &RackBytes, n: usize, ownable: &[Row; 8]) -> bool {
-    let mut counts = [0; 256];
-    let mut lists = Lists {
-        lists: [[0; 256]; 4],
-        lengths: [0; 4],
+    let mut rows = Rows {
+        counts: [0; 256],
+        found: 0,
+        outside: EMPTY,
+        list: [0; 256],
     };
+    let mut columns = Columns::start();
+    let mut owners = [[0; 256]; 4];
+    for rank in 1..4 {
+        let list = rows.add_counted(rack, rank as u8);
+        owners[rank] = columns.add_rows(rack, list);
+        rows.note(&columns.some(), &ownable[rank]);
+    }
+    for rank in [0, 4] {
+        rows.add(rack, rank as u8, &ownable[rank]);
+    }
     empty_from(rack, n)
-        && rows_are_right(rack, n, ownable, &mut counts, &mut lists)
-        && counts_are_right(rack, &counts, &lists)
+        && rows.outside == EMPTY
+        && rows.found == u32::from(edges(rack))
+        && !columns.too_many()
+        && counts_are_right(rack, &rows.counts, &owners)
         && no_edge_has_two_owners(rack, n)
-}
-
-/// The vertices of the ranks 1 to 3, and in place 0 all others.
-struct Lists {
-    lists: [[u8; 256]; 4],
-    lengths: [usize; 4],
-}
-
-impl Lists {
-    fn put(&mut self, rank: u8, v: u8) {
-        let list = usize::from(rank & 3);
-        self.lists[list][self.lengths[list] & 255] = v;
-        self.lengths[list] += 1;
-    }
-
-    fn of_rank(&self, rank: usize) -> &[u8] {
-        &self.lists[rank][..self.lengths[rank]]
-    }
 }
 
 /// Whether the rows from vertex n on are empty.
 fn empty_from(rack: &RackBytes, n: usize) -> bool {
-    let rows = rack[ROWS_AT + 32 * n..].iter();
+    let rows = rack[ROWS_AT + 32 * n..ROSTERS_AT].iter();
     rows.fold(0, |all, byte| all | byte) == 0
 }
 
-/// Goes through the rows of n vertices. They are right if their sizes come to the edge number
-/// and none names a vertex that it may not own. The counts are filled as far as
-/// they come from the vertex's own row.
-fn rows_are_right(
-    rack: &RackBytes,
-    n: usize,
-    ownable: &[Row; 8],
-    counts: &mut [u32; 256],
-    lists: &mut Lists,
-) -> bool {
-    let (mut sum, mut outside, mut v) = (0, EMPTY, 0_u8);
-    let rows = rack[ROWS_AT..].chunks_exact(32);
-    let ranked = rack[RANKS_AT..RANKS_AT + n].iter().zip(rows);
-    for ((&rank, row), count) in ranked.zip(counts) {
-        let row = [0, 8, 16, 24].map(|at| word(&row[at..at + 8]));
-        let class = usize::from(rank & 7);
-        for k in 0..4 {
-            outside[k] |= row[k] & !ownable[class][k];
-        }
-        let size = bits::size(&row);
-        sum += size;
-        *count = size.wrapping_mul(COUNTED[class]);
-        lists.put(rank, v);
-        v = v.wrapping_add(1);
+/// What the rows come to.
+struct Rows {
+    /// The counts as far as they come from the vertex's own row.
+    counts: [u32; 256],
+    found: u32,
+    /// Vertices that some row may not name.
+    outside: Row,
+    /// The vertices of one rank, by rising number.
+    list: [u8; 256],
+}
+
+impl Rows {
+    /// Adds the sizes of the rows of a rank's roster, and lists the roster.
+    #[inline(always)]
+    fn add_counted(&mut self, rack: &RackBytes, rank: u8) -> &[u8] {
+        let one = COUNTED[usize::from(rank & 7)];
+        let (mut found, mut length) = (0, 0);
+        bits::each(&roster(rack, rank), |v| {
+            let size = bits::size(&row(rack, v));
+            found += size;
+            self.counts[usize::from(v)] = size.wrapping_mul(one);
+            self.list[length & 255] = v;
+            length += 1;
+        });
+        self.found += found;
+        &self.list[..length]
     }
-    outside == EMPTY && sum == u32::from(edges(rack))
+
+    /// Adds the rows of a rank at which none counts: those of rank 0 are empty, and
+    /// no level is above that of rank 4.
+    #[inline(always)]
+    fn add(&mut self, rack: &RackBytes, rank: u8, ownable: &Row) {
+        let (mut found, mut named) = (0, EMPTY);
+        bits::each(&roster(rack, rank), |v| {
+            let row = row(rack, v);
+            found += bits::size(&row);
+            for k in 0..4 {
+                named[k] |= row[k];
+            }
+        });
+        self.found += found;
+        self.note(&named, ownable);
+    }
+
+    /// Some rows name these vertices, and may name those.
+    fn note(&mut self, named: &Row, ownable: &Row) {
+        for k in 0..4 {
+            self.outside[k] |= named[k] & !ownable[k];
+        }
+    }
 }
 
 /// Whether the counts in the rack are right and below their thresholds. No
 /// count runs over its byte: a vertex has at most 255 neighbours, and if one is
 /// counted twice its edge has two owners, so that the rack is unsound anyway.
-fn counts_are_right(rack: &RackBytes, counts: &[u32; 256], lists: &Lists) -> bool {
-    let mut columns = Columns::start();
-    let [one, two, three] = [1, 2, 3].map(|rank| columns.add_rows(rack, lists.of_rank(rank)));
+fn counts_are_right(rack: &RackBytes, counts: &[u32; 256], owners: &[[u8; 256]; 4]) -> bool {
     let mut wrong = 0;
     for v in 0..256 {
-        let [one, two, three] = [one[v], two[v], three[v]].map(u32::from);
+        let [one, two, three] = [owners[1][v], owners[2][v], owners[3][v]].map(u32::from);
         let owners = one << 8 | two << 16 | three << 24;
         let count = counts[v].wrapping_add(owners);
         let stored = phi(rack, v as u8);
         wrong |= stored ^ count | stored & AT_THRESHOLD;
     }
-    wrong == 0 && !columns.too_many()
+    wrong == 0
 }

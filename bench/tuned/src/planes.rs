@@ -2,6 +2,7 @@
 //! in bit planes: bit w of plane p is bit p of the count of column w. Rows are
 //! added as by paper and pencil, plane by plane, with carries.
 
+use crate::bits::Row;
 use crate::lanes::{full_add, half_add, or, swap, Lanes, NONE};
 use crate::layout::{half, RackBytes};
 
@@ -51,6 +52,14 @@ impl Columns {
             sum.write(counts);
         }
         self.counts
+    }
+
+    /// The columns whose count isn't 0.
+    pub fn some(&self) -> Row {
+        let [[a, b], [c, d]] = self
+            .halves
+            .map(|half| half.planes.into_iter().fold(half.over, or));
+        [a, b, c, d]
     }
 
     /// Whether some count is 64 or more.

@@ -4,20 +4,20 @@
 //! ranks once it has handed over those to its own rank, so its out-row is the
 //! list from which it draws. And phi at a level less the size of the out-row
 //! says how many edges a rise still has to take from other owners, so that
-//! the search for them ends early or does not begin.
+//! the search for them ends early or does not begin. The rosters tell which
+//! edges are handed over and among whom the owners are.
 //!
 //! What a move needs only at times is not inlined, so that the rest keeps more
-//! in registers. With the feature `apart` rises, and the partings before them, are
-//! not inlined either, so that a tool can count takings without them.
+//! in registers; draws always are, and rises too. With the feature `apart` rises, and
+//! the partings before them, are not, so that a tool can count takings without them.
 
 use crate::bits::{self, Row};
 use crate::layout::{
-    any_owner, counted_from, disown, mate, own, owns, phi, rank, row, set_mate, set_phi, set_rank,
-    set_row, RackBytes, FREE, ONES, REACHED,
+    counted_from, disown, mate, near_owners, own, owns, phi, rank, roster, row, set_mate, set_phi,
+    set_rank, set_row, RackBytes, FREE, ONES, REACHED,
 };
 use crate::moves::{Tally, Words};
 use crate::queues::{self, Queues};
-use crate::ranks::{on_rank, ranked_within};
 
 /// A change in play. Pending vertices stand in one queue a rank, so that none
 /// has to be looked for.
@@ -79,6 +79,7 @@ impl<W: Words> Play<'_, W> {
     /// lower ones; the answer is how many these are. Each such neighbour no
     /// longer counts u at the levels below the rank.
     #[cfg_attr(feature = "apart", inline(never))]
+    #[cfg_attr(not(feature = "apart"), inline(always))]
     fn rise(&mut self, u: u8, to: u8) -> u32 {
         let (from, counts) = (rank(self.rack, u), phi(self.rack, u));
         let below = (counts >> (8 * (to - 1))) & 255;
@@ -93,43 +94,51 @@ impl<W: Words> Play<'_, W> {
         if owned < below {
             self.take_over(u, to, below - owned);
         }
-        set_rank(self.rack, u, to);
+        set_rank(self.rack, u, from, to);
         set_phi(self.rack, u, counts & !(passed * 255));
         below
     }
 
     /// Takes so many edges to vertices below a rank from their owners, none of
-    /// which stands below u.
+    /// which stands below u: they are in the rosters from u's rank on.
     #[inline(never)]
     fn take_over(&mut self, u: u8, to: u8, missing: u32) {
         let passed = ONES >> (32 - 8 * u32::from(to));
         let least = rank(self.rack, u).max(1);
         let mut missing = missing;
-        for group in 0..32 {
-            let mut marks = ranked_within(self.rack, group, least, to);
-            if marks == 0 || !any_owner(self.rack, u, group) {
-                continue;
-            }
-            while marks != 0 {
-                let w = 8 * group + (marks.trailing_zeros() / 8) as u8;
-                marks &= marks - 1;
-                if !owns(self.rack, w, u) {
-                    continue;
+        for rank in least..to {
+            let uncounted = counted_from(rank) & passed;
+            for (k, &word) in roster(self.rack, rank).iter().enumerate() {
+                let mut left = word;
+                if few_sought(word, missing) {
+                    left = near_owners(self.rack, u, k, word);
                 }
-                disown(self.rack, w, u);
-                own(self.rack, u, w);
-                let uncounted = counted_from(rank(self.rack, w)) & passed;
-                set_phi(self.rack, w, phi(self.rack, w) - uncounted);
-                missing -= 1;
-                if missing == 0 {
-                    return;
+                while left != 0 {
+                    let w = bits::vertex(k, left);
+                    left &= left - 1;
+                    if owns(self.rack, w, u) {
+                        self.take_from(w, u, uncounted);
+                        missing -= 1;
+                        if missing == 0 {
+                            return;
+                        }
+                    }
                 }
             }
         }
     }
 
+    /// Vertex u takes its edge from its owner w, which then no longer counts u.
+    #[inline(always)]
+    fn take_from(&mut self, w: u8, u: u8, uncounted: u32) {
+        disown(self.rack, w, u);
+        own(self.rack, u, w);
+        set_phi(self.rack, w, phi(self.rack, w) - uncounted);
+    }
+
     /// Vertex u at a rank draws one of the candidates in its out-row, which
     /// rises to that rank and becomes its mate.
+    #[inline(always)]
     fn draw(&mut self, u: u8, at: u8, candidates: u32) {
         let place = self.words.next() % candidates;
         let y = bits::nth(&row(self.rack, u), place);
@@ -160,13 +169,8 @@ impl<W: Words> Play<'_, W> {
     /// below its rank, and otherwise falls.
     fn take(&mut self, v: u8, at: u8) {
         let mut row = row(self.rack, v);
-        let size = bits::size(&row);
-        let handed = if size >= MANY {
-            self.hand_over_many(v, at, &mut row)
-        } else {
-            self.hand_over_few(v, at, &mut row)
-        };
-        let below = size - handed;
+        self.hand_over(v, at, &mut row);
+        let below = bits::size(&row);
         if below >= 1 << (2 * (at - 1)) {
             self.draw(v, at, below);
         } else {
@@ -175,36 +179,20 @@ impl<W: Words> Play<'_, W> {
     }
 
     /// Vertex v gives its edges within its rank to their other ends, and they go
-    /// out of its row; the answer is how many these are.
+    /// out of its row.
     #[inline(always)]
-    fn hand_over_few(&mut self, v: u8, at: u8, row: &mut Row) -> u32 {
-        let mut handed = 0;
-        bits::each(&row.clone(), |w| {
-            if rank(self.rack, w) == at {
-                own(self.rack, w, v);
-                bits::remove(row, w);
-                handed += 1;
-            }
-        });
-        if handed != 0 {
+    fn hand_over(&mut self, v: u8, at: u8, row: &mut Row) {
+        let roster = roster(self.rack, at);
+        let mut any = 0;
+        for (k, word) in row.iter_mut().enumerate() {
+            let within = *word & roster[k];
+            bits::each_of(k, within, |w| own(self.rack, w, v));
+            *word ^= within;
+            any |= within;
+        }
+        if any != 0 {
             set_row(self.rack, v, row);
         }
-        handed
-    }
-
-    /// The same where there are many edges: all ends on the rank are found
-    /// beforehand.
-    #[inline(never)]
-    fn hand_over_many(&mut self, v: u8, at: u8, row: &mut Row) -> u32 {
-        let mut handed = 0;
-        for (k, word) in row.iter_mut().enumerate() {
-            let within = *word & on_rank(self.rack, k, at);
-            bits::each_of(k, within, |w| own(self.rack, w, v));
-            *word &= !within;
-            handed += within.count_ones();
-        }
-        set_row(self.rack, v, row);
-        handed
     }
 
     /// Vertex v falls by one rank, and there it pends at once, but not on rank 0.
@@ -214,7 +202,7 @@ impl<W: Words> Play<'_, W> {
     /// lowered their count.
     fn fall(&mut self, v: u8, from: u8, row: &Row, below: u32) {
         let level = 8 * (u32::from(from) - 1);
-        set_rank(self.rack, v, from - 1);
+        set_rank(self.rack, v, from, from - 1);
         self.tally.falls += 1;
         if from > 1 {
             self.queues.join(self.rack, v, from - 1);
@@ -246,6 +234,9 @@ impl<W: Words> Play<'_, W> {
     }
 }
 
-/// From so many edges in a row on it pays to find all vertices of a rank before
-/// looking at the edges.
-const MANY: u32 = 64;
+/// Whether so few of the vertices in a word can be owners, with so many edges
+/// missing, that it pays to leave out groups of them beforehand. The figures were
+/// found by measuring.
+fn few_sought(word: u64, missing: u32) -> bool {
+    word.count_ones() > 24 && word.count_ones() > 8 * missing
+}

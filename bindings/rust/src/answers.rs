@@ -69,6 +69,22 @@ impl Linked {
     }
 }
 
+/// The answer on the vertices at a level.
+#[derive(Clone, Copy, Debug, PartialEq, Eq)]
+#[must_use]
+pub struct Roster {
+    pub number: Number,
+    /// How many vertices are at that level.
+    pub count: u32,
+}
+
+impl Roster {
+    /// How many vertices are at that level.
+    pub fn result(self) -> Result<u32, Number> {
+        self.number.result().map(|()| self.count)
+    }
+}
+
 /// The answer of a change.
 #[derive(Clone, Copy, Debug, PartialEq, Eq)]
 #[must_use]

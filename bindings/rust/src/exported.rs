@@ -15,6 +15,8 @@ extern "C" {
 
     pub fn pairing_linked(rack: *const u8, len: usize, v: u32, w: u32, linked: *mut u32) -> Number;
 
+    pub fn pairing_roster(rack: *const u8, len: usize, level: i32, count: *mut u32) -> Number;
+
     pub fn pairing_change(
         rack: *mut u8,
         len: usize,

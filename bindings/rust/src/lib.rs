@@ -1,6 +1,6 @@
 //! The pairing core for Rust: each exported call as a safe function.
 //!
-//! A rack is 9,992 bytes lent by the caller; it holds a graph on up to 256
+//! A rack is 10,152 bytes lent by the caller; it holds a graph on up to 256
 //! vertices and a maximal matching of it. Document 01 calls a vertex a board
 //! and an edge a link; a vertex without a mate is free ("idle").
 //!
@@ -22,6 +22,7 @@
 //!     assert_eq!(pairing::mate(&rack, 2).result()?, None);
 //!     assert_eq!(pairing::level(&rack, 0).result()?, 0);
 //!     assert!(pairing::linked(&rack, 1, 0).result()?);
+//!     assert_eq!(pairing::roster(&rack, -1).result()?, 2);
 //!     assert!(pairing::audit(&rack).result()?);
 //!
 //!     // The same edge again is refused, and no byte changes.
@@ -58,11 +59,29 @@
 //! # Ok::<(), Number>(())
 //! ```
 //!
+//! How many vertices are at a level, and who, from that level's roster:
+//!
+//! ```
+//! use pairing::{Number, ADD, RACK_BYTES, ROSTERS, ROSTER_BYTES};
+//!
+//! let mut rack = vec![0; RACK_BYTES];
+//! pairing::make(&mut rack, 4).result()?;
+//! pairing::change(&mut rack, ADD, 1, 3, &[0, 0]).result()?;
+//! let counts = [-1, 0, 1, 2, 3, 4].map(|level| pairing::roster(&rack, level).count);
+//! assert_eq!(counts, [2, 2, 0, 0, 0, 0]);
+//!
+//! let level = 0;
+//! let roster = &rack[ROSTERS + ROSTER_BYTES * (level + 1)..][..ROSTER_BYTES];
+//! let there = (0..4).filter(|v| roster[v / 8] >> (v % 8) & 1 == 1);
+//! assert!(there.eq([1, 3]));
+//! # Ok::<(), Number>(())
+//! ```
+//!
 //! A number in words:
 //!
 //! ```
 //! let refused = pairing::make(&mut [], 4).result().unwrap_err();
-//! let words = "1: the rack buffer isn't 9,992 bytes; lend exactly RACK_BYTES";
+//! let words = "1: the rack buffer isn't 10,152 bytes; lend exactly RACK_BYTES";
 //! assert_eq!(refused.to_string(), words);
 //! ```
 
@@ -70,11 +89,20 @@ mod answers;
 mod exported;
 mod number;
 
-pub use answers::{Answer, Audit, Level, Linked, Mate, Outcome};
+pub use answers::{Answer, Audit, Level, Linked, Mate, Outcome, Roster};
 pub use number::Number;
 
 /// The length of a rack.
-pub const RACK_BYTES: usize = 9_992;
+pub const RACK_BYTES: usize = 10_152;
+
+/// Where the rosters start in a rack, one for each level from -1 to 3: vertex v
+/// is at a level if bit v mod 8 (bit 0 lowest) of byte v div 8 is set in the
+/// [`ROSTER_BYTES`] bytes from `ROSTERS + ROSTER_BYTES * (level + 1)` on. The
+/// calls keep the rosters; a display only reads them.
+pub const ROSTERS: usize = 9_992;
+
+/// The length of a roster.
+pub const ROSTER_BYTES: usize = 32;
 
 /// The most vertices.
 pub const MOST_VERTICES: u32 = 256;
@@ -142,6 +170,15 @@ pub fn linked(rack: &[u8], v: u32, w: u32) -> Linked {
     // SAFETY: the slice is lent for the call and only read; `linked` is a local.
     let number = unsafe { exported::pairing_linked(rack.as_ptr(), rack.len(), v, w, &mut linked) };
     Linked { number, linked }
+}
+
+/// The number of vertices at a level, 0 for a level outside -1 to 3. Who they are
+/// stands in the level's roster ([`ROSTERS`]). The number is 0, 1 or 6.
+pub fn roster(rack: &[u8], level: i32) -> Roster {
+    let mut count = UNWRITTEN;
+    // SAFETY: the slice is lent for the call and only read; `count` is a local.
+    let number = unsafe { exported::pairing_roster(rack.as_ptr(), rack.len(), level, &mut count) };
+    Roster { number, count }
 }
 
 /// Adds (code [`ADD`]) or drops (code [`DROP`]) the edge a-b and mends the

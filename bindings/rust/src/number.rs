@@ -15,7 +15,7 @@ pub struct Number(pub u32);
 impl Number {
     /// 0: the call ran.
     pub const OK: Number = Number(0);
-    /// 1: the rack buffer isn't 9,992 bytes.
+    /// 1: the rack buffer isn't 10,152 bytes.
     pub const BAD_LENGTH: Number = Number(1);
     /// 2: the trace text is over 16,384 bytes.
     pub const LONG_TEXT: Number = Number(2);
@@ -61,7 +61,7 @@ const TOLD: [(&str, &str); 13] = [
     ("OK", "the call ran"),
     (
         "BAD_LENGTH",
-        "the rack buffer isn't 9,992 bytes; lend exactly RACK_BYTES",
+        "the rack buffer isn't 10,152 bytes; lend exactly RACK_BYTES",
     ),
     (
         "LONG_TEXT",

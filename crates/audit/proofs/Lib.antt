@@ -3,4 +3,5 @@ pub mod Tally
 pub mod Walk
 pub mod Linked
 pub mod Phi
+pub mod Enrolled
 pub mod Whole

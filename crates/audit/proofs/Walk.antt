@@ -1,5 +1,5 @@
--- The walk over a row, word by word and bit by bit: what holds as far as a place goes on over a stretch with no edge, and over an edge.
--- Assumes nothing.
+-- The walk over a row of bits, a vertex's or a roster, word by word and bit by bit: what holds as far as a place goes on over a stretch with
+-- no place of the row, and over one. Assumes nothing.
 use mathlib.Core.Path.{_≡_, sym, ap, _∙_, subst}
 use mathlib.Core.Logic.{inl, inr}
 use mathlib.Core.Bool.{Bool}
@@ -10,13 +10,14 @@ use lib.Dec.{T}
 use lib.ListN.{getD}
 use lib.Bits.{bitAnd}
 use lib.Count.{trailingZeros}
-use Rattle.model.specs.Shape.{Shape}
+use Rattle.model.specs.Shape.{Shape, GoodShape}
 use Rattle.model.specs.Bytes.{rankAt, ownsAt}
 use Rattle.model.proofs.Tests.{eq?, le?}
 use Rattle.bitset.specs.Words.{Rest}
 use Rattle.bitset.proofs.Words.{rest-first, rest-end}
+use Rattle.layout.proofs.Walks.{row-whole}
 use Rattle.audit.specs.Tally.{tallied, partly, Holds, Added}
-use Rattle.audit.specs.Parts.{Right, RightBelow, Walked, OnceBelow}
+use Rattle.audit.specs.Parts.{Right, RightBelow, Walked, Row}
 use Rattle.audit.proofs.Tally.{share-other, share-add, share-skip, share-none, tallied-suc, partly-small}
 
 -- ---- within a word
@@ -64,13 +65,22 @@ module _ (o : ℕ → Bool) (P : ℕ → Type 0) (skips : Skips o P) (base x : �
   pub midway-end : x ≡ 0 → P (base + 64)
   midway-end z = skips (base + m .at) (base + 64) (omega (arith, m .few)) (none-between 64 (rest-end (m .rest) z)) (m .walked)
 
+-- ---- what is asked of each place of a row, as far as p
+
+module _ (o : ℕ → Bool) (Q : ℕ → Type 0) where
+  pub each-skips : Skips o (λ p. (w : ℕ) → w < p → T (o w) → Q w)
+  each-skips p q h none g w l t = elim (le? p w) [ inl a ↦ absurd (none w a l t) | inr a ↦ g w a t ]
+
+  pub each-add : (p : ℕ) → ((w : ℕ) → w < p → T (o w) → Q w) → Q p → (w : ℕ) → w < p + 1 → T (o w) → Q w
+  each-add p g h w l t = elim (eq? w p) [ inl e ↦ subst Q (sym e) h | inr d ↦ g w (omega arith) t ]
+
 -- ---- a row below the top
 
 module _ (S : Shape) (bs t : List ℕ) (v : ℕ) where
   pub walked-skips : Skips (ownsAt S bs v) (Walked S bs t v)
   unfolding partly
   walked-skips p q h none w = record {
-    right = λ x l o. elim (le? p x) [ inl a ↦ absurd (none x a l o) | inr a ↦ w .right x a o ];
+    right = each-skips (ownsAt S bs v) (Right S bs v) p q h none (w .right);
     tally = record {
       long = w .tally .long;
       at = λ x r hx hr. w .tally .at x r hx hr ∙ ap (λ (y : ℕ). tallied S bs v x r + y) (share-skip S bs v p q x r h none);
@@ -80,10 +90,7 @@ module _ (S : Shape) (bs t : List ℕ) (v : ℕ) where
   pub walked-add : (u : List ℕ) (w : ℕ) → Walked S bs t v w → T (ownsAt S bs v w) → Right S bs v w → Added S t u v w (rankAt bs v) → Walked S bs u v (w + 1)
   unfolding partly
   walked-add u w k o r a = record {
-    right = λ x l q. elim (eq? x w) [
-      | inl e ↦ subst (λ (y : ℕ). Right S bs v y) (sym e) r
-      | inr d ↦ k .right x (omega arith) q
-    ];
+    right = each-add (ownsAt S bs v) (Right S bs v) w (k .right) r;
     tally = record {
       long = a .long ∙ k .tally .long;
       at = λ x s hx hs. omega (arith, a .at x s hs, k .tally .at x s hx hs, share-add S bs v w x s o);
@@ -113,18 +120,23 @@ module _ (S : Shape) (bs t : List ℕ) (v : ℕ) where
   pub right-past : (n p : ℕ) → p ≤ S .most → ((j : ℕ) → j < S .most → n ≤ j → T (ownsAt S bs v j) → ⊥) → RightBelow S bs v n → RightBelow S bs v p
   right-past n p h none g w l o = elim (le? n w) [ inl a ↦ absurd (none w (omega arith) a o) | inr a ↦ g w a o ]
 
-  -- a row whose rank has no entry adds nothing
+  -- a row with no edge adds nothing
+  pub empty-adds-none : ((w : ℕ) → w < S .most → T (ownsAt S bs v w) → ⊥) → Holds S t (tallied S bs v) → Holds S t (tallied S bs (v + 1))
+  empty-adds-none none h = walked-end 0 (omega arith) (λ w l _. none w l) (walked-start h)
+
+  -- nor does a row whose rank has no entry
   pub top-adds-none : S .levels ≤ rankAt bs v → Holds S t (tallied S bs v) → Holds S t (tallied S bs (v + 1))
   top-adds-none h k = record {
     long = k .long;
     at = λ x r hx hr. omega (arith, k .at x r hx hr, tallied-suc S bs v x r, share-other S bs v (S .most) x r (λ e. omega arith));
   }
 
--- ---- a row at the top
+-- ---- a row with no edge
 
-module _ (S : Shape) (bs : List ℕ) (v : ℕ) where
-  pub once-skips : Skips (ownsAt S bs v) (OnceBelow S bs v)
-  once-skips p q h none w x l o = elim (le? p x) [ inl a ↦ absurd (none x a l o) | inr a ↦ w x a o ]
-
-  pub once-add : (w : ℕ) → OnceBelow S bs v w → (T (ownsAt S bs w v) → ⊥) → OnceBelow S bs v (w + 1)
-  once-add w k n x l o = elim (eq? x w) [ inl e ↦ subst (λ (y : ℕ). T (ownsAt S bs y v) → ⊥) (sym e) n | inr d ↦ k x (omega arith) o ]
+pub empty-row : {S : Shape} → GoodShape S → (bs : List ℕ) (n v : ℕ) → n ≤ S .most → v < S .most
+    → ((w : ℕ) → w < S .most → T (ownsAt S bs v w) → ⊥) → Row S bs n v
+empty-row good bs n v few h none = record {
+  within = λ w l _. none w l;
+  below = λ _ w l t. absurd (none w (omega arith) t);
+  top = λ _ w l t _. none w (omega (arith, row-whole good)) t;
+}

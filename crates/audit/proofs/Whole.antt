@@ -18,8 +18,9 @@ use Rattle.model.proofs.Facts.{Says, Unused, Facts, sound-says}
 use Rattle.layout.specs.Rows.{degreeAt}
 use Rattle.layout.proofs.Walks.{row-whole}
 use Rattle.audit.specs.Tally.{tallied}
-use Rattle.audit.specs.Parts.{Row, Edges, Mate}
+use Rattle.audit.specs.Parts.{Row, Edges, Rosters, Mate}
 use Rattle.audit.proofs.Phi.{phi-tallied, edges-owned}
+use Rattle.audit.proofs.Enrolled.{enrolled-rank, enrolled-right, enrolled-clear, enrolled-tested}
 
 -- an answer that says the facts is the answer
 pub answer : (S : Shape) (b : Bool) (bs : List ℕ) → Says b (Facts base S bs) → b ≡ sound base S bs
@@ -29,7 +30,10 @@ answer S b bs s =
 
 -- ---- from rows that are right
 
-module _ (S : Shape) (bs : List ℕ) (few : sizeAt bs ≤ S .most) (rows : (v : ℕ) → v < sizeAt bs → Row S bs (sizeAt bs) v) where
+module _ (S : Shape) (bs : List ℕ)
+    (few : sizeAt bs ≤ S .most)
+    (ranks : (v : ℕ) → v < sizeAt bs → rankAt bs v ≤ suc (base .top))
+    (rows : (v : ℕ) → v < sizeAt bs → Row S bs (sizeAt bs) v) where
   rows-within : (v : ℕ) → v < sizeAt bs → (w : ℕ) → w < S .most → sizeAt bs ≤ w → T (ownsAt S bs v w) → ⊥
   rows-within v h = rows v h .within
 
@@ -37,7 +41,7 @@ module _ (S : Shape) (bs : List ℕ) (few : sizeAt bs ≤ S .most) (rows : (v : 
   rows-high : (v : ℕ) → v < sizeAt bs → (w : ℕ) → w < sizeAt bs → T (ownsAt S bs v w) → rankAt bs w ≤ rankAt bs v
   rows-high v hv w hw o = elim (le? (rankAt bs v) (base .top)) [
     | inl l ↦ rows v hv .below l w hw o .high
-    | inr l ↦ omega (arith, rows w hw .ranked)
+    | inr l ↦ omega (arith, ranks w hw)
   ]
 
   -- both bits of an edge are seen from an end below the top, or from the higher number
@@ -61,31 +65,33 @@ module _ (S : Shape) (bs : List ℕ) (few : sizeAt bs ≤ S .most) (rows : (v : 
 module _ (S : Shape) (good : GoodShape S) (full : Full S) (bs : List ℕ) where
   -- all parts, together
   pub whole : 1 ≤ sizeAt bs → sizeAt bs ≤ S .most → ((k : ℕ) → k < 2 + S .spare → getD bs (4 + k) 0 ≡ 0)
-      → ((v : ℕ) → v < S .most → sizeAt bs ≤ v → Unused S bs v) → Edges S bs (sizeAt bs) → edgesAt S bs ≡ sum (degreeAt S bs) (sizeAt bs)
-      → ((v : ℕ) → v < sizeAt bs → Mate S bs v) → Facts base S bs
-  whole some few spare unused e right mates =
+      → ((v : ℕ) → v < S .most → sizeAt bs ≤ v → Unused S bs v) → Rosters S bs (sizeAt bs) → Edges S bs (sizeAt bs)
+      → edgesAt S bs ≡ sum (degreeAt S bs) (sizeAt bs) → ((v : ℕ) → v < sizeAt bs → Mate S bs v) → Facts base S bs
+  whole some few spare unused r e right mates =
+      let ranks : (v : ℕ) → v < sizeAt bs → rankAt bs v ≤ suc (base .top) = λ v h. omega (arith, enrolled-rank few r v h) in
       let rows = e .rows in
       record {
         spare = spare;
         unused = unused;
         unnamed = λ v h w k l. elim (le? (sizeAt bs) v) [ inl a ↦ unused v h a .owns w k | inr a ↦ rows v a .within w k l ];
         size = (some, few);
-        ranks = λ v h. rows v h .ranked;
-        no-loop = λ v h o. rows-once S bs few rows v h v h o o;
-        owned-once = λ v h w k b. rows-once S bs few rows v h w k (b .0) (b .1);
-        edges = right ∙ sym (rows-degrees S bs few rows);
-        phi = λ v h j k. e .counts v h j (omega arith) ∙ sym (rows-phi S bs few rows v h j);
-        owner-high = rows-high S bs few rows;
+        ranks = ranks;
+        no-loop = λ v h o. rows-once S bs few ranks rows v h v h o o;
+        owned-once = λ v h w k b. rows-once S bs few ranks rows v h w k (b .0) (b .1);
+        edges = right ∙ sym (rows-degrees S bs few ranks rows);
+        phi = λ v h j k. e .counts v h j (omega arith) ∙ sym (rows-phi S bs few ranks rows v h j);
+        owner-high = rows-high S bs few ranks rows;
         mated = λ v h. mates v h .mated;
         free-low = λ v h. (mates v h .free, mates v h .low);
         phi-low = λ v h j k. e .low v h j (omega arith);
+        rosters = enrolled-right few r;
+        clear = enrolled-clear few r;
       }
 
   -- and back
   module _ (f : Facts base S bs) where
     pub facts-rows : (v : ℕ) → v < sizeAt bs → Row S bs (sizeAt bs) v
     facts-rows v h = record {
-      ranked = f .ranks v h;
       within = λ w a b. f .unnamed v (omega (arith, f .size .1)) w a b;
       below = λ _ w k o. record { high = f .owner-high v h w k o; once = λ t. f .owned-once v h w k (o, t) };
       top = λ _ w k o t. elim (le? (sizeAt bs) w) [
@@ -97,12 +103,15 @@ module _ (S : Shape) (good : GoodShape S) (full : Full S) (bs : List ℕ) where
     pub facts-edges : Edges S bs (sizeAt bs)
     facts-edges = record {
       rows = facts-rows;
-      counts = λ v h j k. f .phi v h j (omega arith) ∙ rows-phi S bs (f .size .1) facts-rows v h j;
+      counts = λ v h j k. f .phi v h j (omega arith) ∙ rows-phi S bs (f .size .1) (f .ranks) facts-rows v h j;
       low = λ v h j k. f .phi-low v h j (omega arith);
     }
 
+    pub facts-rosters : Rosters S bs (sizeAt bs)
+    facts-rosters = enrolled-tested S bs (sizeAt bs) (λ v h. omega (arith, f .ranks v h)) (f .rosters) (f .clear)
+
     pub facts-degrees : sum (degreeAt S bs) (sizeAt bs) ≡ edgesAt S bs
-    facts-degrees = sym (rows-degrees S bs (f .size .1) facts-rows) ∙ sym (f .edges)
+    facts-degrees = sym (rows-degrees S bs (f .size .1) (f .ranks) facts-rows) ∙ sym (f .edges)
 
     pub facts-mates : (v : ℕ) → v < sizeAt bs → Mate S bs v
     facts-mates v h = record { mated = f .mated v h; free = f .free-low v h .0; low = f .free-low v h .1 }

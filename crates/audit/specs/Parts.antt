@@ -2,13 +2,14 @@
 -- Assumes nothing.
 use mathlib.Core.Path.{_≡_}
 use mathlib.Core.Logic.{_≢_}
+use mathlib.Core.Bool.{Bool, false, _||_}
 use mathlib.Core.List.{List}
-use Prim.Native.Nat.{ℕ, suc, _+_, _*_, _/_, _≤_, _<_}
-use lib.Dec.{T}
+use Prim.Native.Nat.{ℕ, zero, suc, _+_, _*_, _/_, _≤_, _<_}
+use lib.Dec.{T, ltb}
 use Rattle.model.specs.Counting.{sum}
 use Rattle.model.specs.Shape.{Shape}
 use Rattle.model.specs.State.{base}
-use Rattle.model.specs.Bytes.{noMate, rankAt, mateAt, phiAt, ownsAt}
+use Rattle.model.specs.Bytes.{noMate, rankAt, mateAt, phiAt, ownsAt, rosterAt}
 use Rattle.model.proofs.Facts.{Mated}
 use Rattle.audit.specs.Tally.{Holds, tallied, partly, upTo}
 
@@ -37,7 +38,6 @@ wordEnd v = 64 * (v / 64 + 1)
 
 -- row v of a rack of n vertices is right
 pub record Row (S : Shape) (bs : List ℕ) (n v : ℕ) : Type 0 where
-  pub ranked : rankAt bs v ≤ suc (base .top)
   pub within : (w : ℕ) → w < S .most → n ≤ w → T (ownsAt S bs v w) → ⊥
   pub below : rankAt bs v ≤ base .top → RightBelow S bs v n
   pub top : base .top < rankAt bs v → OnceBelow S bs v (wordEnd v)
@@ -52,6 +52,21 @@ pub record Edges (S : Shape) (bs : List ℕ) (n : ℕ) : Type 0 where
   pub rows : (v : ℕ) → v < n → Row S bs n v
   pub counts : (v : ℕ) → v < n → (j : ℕ) → j ≤ base .top → phiAt S bs v j ≡ sum (tallied S bs n v) (suc j)
   pub low : (v : ℕ) → v < n → (j : ℕ) → j ≤ base .top → phiAt S bs v j < base .thr j
+
+-- who is in the roster of rank r and below p has that rank
+abbrev pub RankedBelow : Shape → List ℕ → ℕ → ℕ → Type 0
+RankedBelow S bs r p = (v : ℕ) → v < p → T (rosterAt S bs r v) → rankAt bs v ≡ r
+
+-- v is in the roster of a rank below m
+unfoldable pub listedIn : Shape → List ℕ → ℕ → ℕ → Bool
+listedIn S bs zero v = false
+listedIn S bs (suc m) v = listedIn S bs m v || rosterAt S bs m v
+
+-- The rosters of a rack of n vertices are right: who is in one has its rank, and together they are the vertices below n. So none is in two, and
+-- each is in that of its rank (proofs/Enrolled.antt).
+pub record Rosters (S : Shape) (bs : List ℕ) (n : ℕ) : Type 0 where
+  pub ranked : (r : ℕ) → r ≤ S .levels → RankedBelow S bs r (S .most)
+  pub together : (v : ℕ) → v < S .most → listedIn S bs (suc (S .levels)) v ≡ ltb v n
 
 -- v's mate is right, and v has none exactly if its rank is 0
 pub record Mate (S : Shape) (bs : List ℕ) (v : ℕ) : Type 0 where

@@ -1,16 +1,17 @@
 // Whether rack bytes are sound: any bytes of a rack's length, damaged in any way. One way over the rows tests the owners and gathers a
 // tally of the edges at each vertex, to which the counts are then held. The contracts cite specs/ and the facts of a sound rack in `model`.
 ghost use mathlib.Core.Path.{_≡_};
-ghost use Prim.Native.Nat.{ℕ, _*_, _<_, _≤_};
+ghost use Prim.Native.Nat.{ℕ, suc, _*_, _<_, _≤_};
 ghost use lib.ListN.{length};
 ghost use Rattle.model.specs.Shape.{low};
 ghost use Rattle.model.specs.State.{base};
-ghost use Rattle.model.specs.Bytes.{sizeAt};
+ghost use Rattle.model.specs.Bytes.{sizeAt, rankAt};
 ghost use Rattle.model.specs.Sound.{sound as soundOf};
 ghost use Rattle.model.proofs.Facts.{Says, Mated};
 ghost use Rattle.layout.specs.Setters.{Sized};
 ghost use Rattle.audit.specs.Parts.{Count, Edges, Mate};
 
+mod rosters;
 mod rows;
 
 // Whether the counts of v are what the tally says, and below their thresholds.
@@ -114,6 +115,7 @@ fn mates(rack: &[u8], n: usize) -> bool
 fn edges(rack: &[u8], n: usize) -> bool
     requires { ⌜ Sized low (now rack) ⌝ }
     requires { ⌜ n ≤ low .most ⌝ }
+    requires { ⌜ ((v : ℕ) → v < n → rankAt (now rack) v ≤ suc (base .top)) ⌝ }
     ensures { λ a. ⌜ Says a (Edges low (now (rack .entry)) n) ⌝ }
 {
     let mut tally = [0u16; layout::shape::LEVELS * layout::shape::MOST];
@@ -139,6 +141,9 @@ pub fn sound(rack: &[u8]) -> bool
         return false;
     }
     if !layout::unused::unused_from(rack, n) {
+        return false;
+    }
+    if !rosters::all(rack, n) {
         return false;
     }
     if !edges(rack, n) {

@@ -1,9 +1,10 @@
 // The rows of a rack: one way over them tests the owners and gathers the tally.
 ghost use mathlib.Core.Path.{_≡_};
-ghost use Prim.Native.Nat.{ℕ, _+_, _*_, _<_, _≤_};
+ghost use Prim.Native.Nat.{ℕ, suc, _+_, _*_, _<_, _≤_};
 ghost use lib.Dec.{T};
 ghost use lib.ListN.{length, getD};
 ghost use Rattle.model.specs.Shape.{low};
+ghost use Rattle.model.specs.State.{base};
 ghost use Rattle.model.specs.Bytes.{rankAt, ownsAt};
 ghost use Rattle.model.proofs.Facts.{Says};
 ghost use Rattle.layout.specs.Setters.{Sized};
@@ -119,25 +120,24 @@ fn once_row(rack: &[u8], v: usize) -> bool
     true
 }
 
-// Whether row v of a rack of n vertices is right, with the rows before it in the tally.
+// Whether row v of a rack of n vertices is right, with the rows before it in the tally. An empty row is, and adds nothing.
 fn row(rack: &[u8], tally: &mut [u16], v: usize, n: usize) -> bool
     requires { ⌜ Sized low (now rack) ⌝ }
     requires { ⌜ n ≤ low .most ⌝ }
-    requires { ⌜ v < n ⌝ }
+    requires { ⌜ (v < n) × (rankAt (now rack) v ≤ suc (base .top)) ⌝ }
     requires { ⌜ Holds low (now tally) (tallied low (now rack) v) ⌝ }
     ensures { λ a. ⌜ Says a (Row low (now (rack .entry)) n v) ⌝ }
     ensures { λ a. ⌜ (T a → Holds low (now (tally .exit)) (tallied low (now (rack .entry)) (v + 1))) ⌝ }
 {
+    if layout::words::is_empty(rack, v) {
+        return true;
+    }
     if !layout::owns_none_from(rack, v, n) {
         return false;
     }
     let r = layout::rank(rack, v) as usize;
-    let top = layout::top();
-    if r <= top {
+    if r <= layout::top() {
         return walk_row(rack, &mut *tally, v, r, n);
-    }
-    if r != top + 1 {
-        return false;
     }
     once_row(rack, v)
 }
@@ -146,6 +146,7 @@ fn row(rack: &[u8], tally: &mut [u16], v: usize, n: usize) -> bool
 pub fn all(rack: &[u8], tally: &mut [u16], n: usize) -> bool
     requires { ⌜ Sized low (now rack) ⌝ }
     requires { ⌜ n ≤ low .most ⌝ }
+    requires { ⌜ ((v : ℕ) → v < n → rankAt (now rack) v ≤ suc (base .top)) ⌝ }
     requires { ⌜ Holds low (now tally) (tallied low (now rack) 0) ⌝ }
     ensures { λ a. ⌜ Says a ((v : ℕ) → v < n → Row low (now (rack .entry)) n v) ⌝ }
     ensures { λ a. ⌜ (T a → Holds low (now (tally .exit)) (tallied low (now (rack .entry)) n)) ⌝ }

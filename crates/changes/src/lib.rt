@@ -20,12 +20,12 @@ pub struct Answer {
     pub pairs: u32,
 }
 
-// The pairs held. In a sound rack a vertex is free exactly if its rank is 0, so that the vertices with a rank above 0 are twice as many.
+// The pairs held. In a sound rack the roster of level -1 is the free vertices, and the others are twice as many as the pairs.
 pub fn pairs(rack: &[u8]) -> u32
     requires { ⌜ Sounded low (now rack) ⌝ }
     ensures { λ r. ⌜ r ≡ pairsOf (read low (now (rack .entry))) ⌝ }
 {
-    (layout::ranked(rack) / 2) as u32
+    ((layout::size(rack) - layout::rosters::size(rack, 0)) / 2) as u32
 }
 
 // "7. The change code is neither 1 (add) nor 2 (drop).", or 0.

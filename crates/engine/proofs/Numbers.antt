@@ -6,14 +6,19 @@ use mathlib.Core.List.{List}
 use Prim.Native.Nat.{ℕ, suc, _≤_, _<_}
 use native.Mathlib.Omega.{arith}
 use lib.Dec.{eqb, eqb→eq}
+use lib.IntN.{ℤ}
 use lib.ListN.{length}
 use Rattle.model.specs.Shape.{Shape, rackLength}
 use Rattle.model.specs.State.{base, edge, empty}
-use Rattle.model.specs.Bytes.{sizeAt, ownsAt, read, write}
+use Rattle.model.specs.Counting.{count}
+use Rattle.model.specs.Bytes.{sizeAt, rankAt, ownsAt, rosterAt, read, write}
 use Rattle.model.specs.Sound.{sizeGood, sound}
-use Rattle.model.specs.Calls.{sized, rackNumber, makeNumber, made, oneNumber, twoNumber}
+use Rattle.model.specs.Calls.{sized, rackNumber, makeNumber, made, oneNumber, twoNumber, atLevel}
 use Rattle.model.proofs.Tests.{eq?, le?, true-T, eqb-yes, eqb-no, leb-yes, leb-no}
-use Rattle.model.proofs.Facts.{sound-says}
+use Rattle.model.proofs.Counting.{count-none}
+use Rattle.model.proofs.Prefix.{count-ext}
+use Rattle.model.proofs.Facts.{Facts, sound-says}
+use Rattle.model.proofs.Rosters.{roster-size}
 use Rattle.model.proofs.Reading.{read-owns}
 
 -- what a test of a negation says, and what it says of what a flag stands for
@@ -148,6 +153,21 @@ module _ (S : Shape) (bs : List ℕ) where
 
   pub linked-edge : (v w : ℕ) → twoNumber base S bs v w ≡ 0 → ownsAt S bs v w || ownsAt S bs w v ≡ edge (read S bs) v w
   linked-edge v w z = let t = two-good v w z in sym (edge-owns v w (one-good v (t .0) .1) (t .1))
+
+  -- The vertices at a level, where r is its rank: none, if r is past all ranks, and otherwise as many as its roster has.
+  module _ (z : rackNumber base S bs ≡ 0) (level : ℤ) (r : ℕ) (is : (x : ℕ) → x ≤ suc (base .top) → atLevel level x ≡ eqb x r) where
+    facts : Facts base S bs
+    facts = sound-says base S bs .fact (true-T (rack-good z .1))
+
+    at-rank : count (λ v. atLevel level (rankAt bs v)) (sizeAt bs) ≡ count (λ v. eqb (rankAt bs v) r) (sizeAt bs)
+    at-rank = count-ext _ _ (sizeAt bs) (λ v l. is (rankAt bs v) (facts .ranks v l))
+
+    pub level-none : suc (base .top) < r → 0 ≡ count (λ v. atLevel level (rankAt bs v)) (sizeAt bs)
+    level-none past =
+        sym (at-rank ∙ count-none _ (sizeAt bs) (λ v l t. omega (arith, eqb→eq (rankAt bs v) r t, facts .ranks v l)))
+
+    pub level-roster : r ≤ S .levels → count (rosterAt S bs r) (S .most) ≡ count (λ v. atLevel level (rankAt bs v)) (sizeAt bs)
+    level-roster l = roster-size facts r (omega arith) ∙ sym at-rank
 
 -- a number of boards that a rack has not room for, and one that it has
 pub few-bad : (S : Shape) (n : ℕ) → n ≡ 0 → sizeGood S n ≡ false

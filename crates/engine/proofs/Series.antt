@@ -12,7 +12,9 @@ use Rattle.model.specs.Calls.{sized, changeBytes}
 use Rattle.model.specs.Ledger.{Ledger, ledgerOf, entered, enteredAll}
 use Rattle.theory.specs.Demand.{lastRack, Call, Calls, Demand}
 use Rattle.model.proofs.Shapes.{low-good, low-room}
+use Rattle.theory.specs.Rosters.{Rosters}
 use Rattle.theory.proofs.ListTheorem.{demand-three}
+use Rattle.theory.proofs.Rosters.{rosters-of}
 use Rattle.engine.specs.Answers.{ChangeIs}
 use Rattle.engine.specs.Series.{CallMade, Series, asked, left, gave, Right, SeriesDemand}
 
@@ -53,3 +55,8 @@ demand-three-of-series S good room bs by sz so ds h = kept S (ledgerOf S bs) bs 
 pub demand-three-of-change : (bs : List ℕ) → IsBytes bs → T (sized low bs) → T (sound base low bs)
     → (ds : List CallMade) → Series low bs ds → SeriesDemand low (ledgerOf low bs) bs ds
 demand-three-of-change = demand-three-of-series low low-good low-room
+
+-- W-205: and so the rosters are the levels, whatever calls were made.
+pub rosters-of-change : (bs : List ℕ) → IsBytes bs → T (sized low bs) → T (sound base low bs)
+    → (ds : List CallMade) → Series low bs ds → Rosters low (enteredAll (ledgerOf low bs) (asked ds)) (left bs ds)
+rosters-of-change bs by sz so ds h = rosters-of low-room (demand-three-of-change bs by sz so ds h .last)

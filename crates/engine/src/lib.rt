@@ -1,10 +1,12 @@
-// The calls of document 01 on a lent rack: making, a change, the audit and the queries. None has a `requires`: what a call cannot do it turns back,
+// The calls on a lent rack: making, a change, the audit and the queries. None has a `requires`: what a call cannot do it turns back,
 // with the first number that fits, and then every byte stays. Each contract names the definition that leaves one outcome.
 ghost use mathlib.Core.Path.{_≡_};
+ghost use Prim.Native.Nat.{ℕ, suc, _≤_};
+ghost use lib.Dec.{eqb};
 ghost use lib.IntN.{pos, predℤ};
 ghost use Rattle.model.specs.Shape.{low};
 ghost use Rattle.model.specs.State.{base, lowKind};
-ghost use Rattle.model.specs.Calls.{rackNumber, makeNumber, made, audit as auditOf, oneNumber, twoNumber, levelQuery, mateQuery, linkedQuery};
+ghost use Rattle.model.specs.Calls.{rackNumber, makeNumber, made, audit as auditOf, oneNumber, twoNumber, levelQuery, mateQuery, linkedQuery, atLevel, rosterQuery};
 ghost use Rattle.changes.specs.Sounded.{brought};
 ghost use Rattle.engine.specs.Answers.{ChangeIs, AuditIs, LevelIs, QueryIs};
 use changes::Answer;
@@ -21,7 +23,7 @@ pub struct LevelAnswer {
     pub level: i32,
 }
 
-// "a query 0 and [..] the mate (65,535 if idle), or 1 for linked and 0 for not linked"
+// "a query 0 and [..] the mate (65,535 if idle), or 1 for linked and 0 for not linked"; W-205: "a query returns the number of boards at a level"
 pub struct QueryAnswer {
     pub number: u32,
     pub value: u32,
@@ -160,6 +162,43 @@ pub fn mate(rack: &[u8], v: u32) -> QueryAnswer
     QueryAnswer {
         number: 0,
         value: layout::mate(rack, v as usize) as u32,
+    }
+}
+
+// The rank of a level: one more. A level below -1 has none, and gets one that no board has.
+fn rank_of(level: i32) -> usize
+    ensures { λ r. ⌜ ((x : ℕ) → x ≤ suc (base .top) → atLevel level x ≡ eqb x r) ⌝ }
+{
+    if level < 0 {
+        if level == -1 {
+            return 0;
+        }
+        return layout::top() + 2;
+    }
+    level as usize + 1
+}
+
+// The number of boards at a level, 0 for a level that is none.
+pub fn roster(rack: &[u8], level: i32) -> QueryAnswer
+    ensures { λ r. ⌜ QueryIs r (rosterQuery base low (now (rack .entry)) level) ⌝ }
+{
+    let k = rack_number(rack);
+    if k != 0 {
+        return QueryAnswer {
+            number: k,
+            value: 0,
+        };
+    }
+    let r = rank_of(level);
+    if layout::top() + 1 < r {
+        return QueryAnswer {
+            number: 0,
+            value: 0,
+        };
+    }
+    QueryAnswer {
+        number: 0,
+        value: layout::rosters::size(rack, r) as u32,
     }
 }
 

@@ -1,26 +1,29 @@
 -- The bytes of a rack with no edge: those that the code leaves, part by part. Assumes nothing.
 use mathlib.Core.Path.{_≡_, refl, sym, ap, ap₂, _∙_}
-use mathlib.Core.Logic.{inl, inr}
-use mathlib.Core.Bool.{false}
+use mathlib.Core.Logic.{_≢_, inl, inr}
+use mathlib.Core.Bool.{Bool, true, false, _&&_}
 use mathlib.Core.List.{List, [], _∷_, _++_, append-assoc, append-nil}
-use Prim.Native.Nat.{ℕ, zero, suc, _+_, _-_, _*_, _/_, _%_, _<_}
+use Prim.Native.Nat.{ℕ, zero, suc, _+_, _-_, _*_, _/_, _%_, _≤_, _<_}
 use native.Mathlib.Nat.{mul-suc, mul-zero}
 use native.Mathlib.Omega.{arith}
-use lib.Dec.{leb, ltb, T-not}
+use lib.Dec.{T, leb, ltb, eqb, eqb→eq, T-not, ltb→lt, lt→ltb}
 use lib.ListN.{length, set, take, drop, replicate, length-replicate, replicate-append-replicate}
 use lib.Seq.{take-at, drop-at}
 use borrow.Rule.Slice.PartMut.{putMid}
 use Rattle.model.specs.Counting.{sum, eachOnto, each}
-use Rattle.model.specs.Shape.{Shape, GoodShape, matesFrom, phisFrom, rackLength}
+use Rattle.model.specs.Shape.{Shape, GoodShape, matesFrom, phisFrom, rostersFrom, rackLength}
 use Rattle.model.specs.State.{Kind, edge, near, below, phi, edges, empty}
-use Rattle.model.specs.Parts.{num, rowByte, Part, bytesOf}
-use Rattle.model.specs.Bytes.{parts, image, mateEntry, fieldsOf, write}
-use Rattle.model.proofs.Tests.{bool?, T-true, T-false, and-right}
+use Rattle.model.specs.Parts.{num, rowByte, byRows, Part, bytesOf}
+use Rattle.model.specs.Bytes.{Fields, roster, parts, image, mateEntry, fieldsOf, write}
+use Rattle.model.proofs.Tests.{eq?, le?, bool?, T-true, T-false, bool-ext, true-T, eqb-yes, and-intro, and-left, and-right, and-yes}
 use Rattle.model.proofs.Counting.{count-none, sum-eq, sum-zero}
 use Rattle.model.proofs.Limits.{mateEntry-free}
-use Rattle.model.proofs.Parts.{total, span, next}
-use Rattle.layout.specs.Setters.{setNum, blanked}
-use Rattle.layout.proofs.Pieces.{each-next, put, set-part}
+use Rattle.model.proofs.Parts.{total, span, bytes-length, next}
+use Rattle.bitset.specs.Words.{Rest, stored}
+use Rattle.layout.specs.Setters.{setNum, put, blanked, enrolled}
+use Rattle.layout.proofs.Pieces.{each-next, set-part, rowByte-ext}
+use Rattle.layout.proofs.Bits.{withRowWord, word-in, word-out, rows-same, store-word}
+use Rattle.layout.proofs.Images.{rosters-table}
 
 -- ---- what the code leaves: zeros, and then a part of them overwritten
 
@@ -95,10 +98,19 @@ module _ (K : Kind) (good : GoodShape (K .shape)) (n : ℕ) where
   abbrev S : Shape
   S = K .shape
 
-  abbrev all : List Part
-  all = unfold fieldsOf empty in put 0 (λ i. 0) (parts (fieldsOf (empty K n)))
+  -- its parts, with nobody in a roster yet, and n not yet told
+  abbrev nobody : ℕ → ℕ
+  nobody = byRows (S .row) (λ r. rowByte (λ v. ltb v 0 && roster (fieldsOf (empty K n)) r v))
 
-  -- but for n itself
+  none-in : (i : ℕ) → nobody i ≡ 0
+  none-in i =
+      rowByte-ext _ (λ v. false) (i % S .row)
+      (λ b l. T-false {b = ltb (8 * (i % S .row) + b) 0 && _} (λ t. omega (arith, ltb→lt (8 * (i % S .row) + b) 0 (and-left (ltb (8 * (i % S .row) + b) 0) _ t))))
+      ∙ no-row (i % S .row)
+
+  abbrev all : List Part
+  all = unfold fieldsOf empty in put 0 (λ i. 0) (put 8 nobody (parts (fieldsOf (empty K n))))
+
   blank-bytes : bytesOf all ≡ blanked S
   unfolding fieldsOf empty blanked bytesOf
   blank-bytes =
@@ -112,11 +124,70 @@ module _ (K : Kind) (good : GoodShape (K .shape)) (n : ℕ) where
       (even 255 (2 * S .most) (take 1 (drop 5 all)) (drop 6 all) _ (next (λ v l. no-mate K n v) tt) (omega arith)
       (even 0 rest (drop 6 all) [] []
       (next (λ i l. num-zero (S .width) _ (no-phi K n _ _))
-      (next (λ i l. num-zero 1 _ (no-row _)) tt)) (omega arith) refl
+      (next (λ i l. num-zero 1 _ (no-row _))
+      (next (λ i l. num-zero 1 _ (none-in i)) tt))) (omega arith) refl
       ∙ append-nil (replicate rest 0)))
 
-  pub cleared : set (set (blanked S) 0 (n % 256)) 1 (n / 256) ≡ write (empty K n)
-  unfolding write image setNum fieldsOf empty
-  cleared =
+  pub founded : set (set (blanked S) 0 (n % 256)) 1 (n / 256) ≡ enrolled K n 0
+  unfolding enrolled setNum fieldsOf empty
+  founded =
       ap (λ (l : List ℕ). setNum 2 l 0 n) (sym blank-bytes)
       ∙ set-part 0 all (λ i. n) 0 0 n (omega arith) (omega arith) refl (λ u l d. absurd (omega arith))
+
+  pub enrolled-length : (m : ℕ) → length (enrolled K n m) ≡ rackLength S
+  unfolding enrolled
+  enrolled-length m = bytes-length (put 8 _ (parts (fieldsOf (empty K n)))) ∙ unfold fieldsOf empty in omega (arith, good .spare)
+
+  -- who is in the rosters once the vertices below m have entered
+  abbrev entry : ℕ → ℕ → ℕ → Bool
+  entry m r v = ltb v m && roster (fieldsOf (empty K n)) r v
+
+  -- none is in that of another rank
+  other-rank : (m r v : ℕ) → r ≢ 0 → entry m r v ≡ false
+  unfolding roster fieldsOf empty
+  other-rank m r v d =
+      T-false {b = entry m r v} (λ t.
+      let q = and-right (ltb v n) (eqb 0 r) (and-right (ltb v m) _ t) in
+      d (sym (eqb→eq 0 r q)))
+
+  entry-word : (k r v : ℕ) → withRowWord (entry (64 * k)) 0 k (λ v. ltb v n) r v ≡ entry (64 * (k + 1)) r v
+  unfolding roster fieldsOf empty
+  entry-word k r v =
+      let out : (r ≡ 0 → 64 * k ≤ v → v < 64 * k + 64 → ⊥) → withRowWord (entry (64 * k)) 0 k (λ v. ltb v n) r v ≡ entry (64 * k) r v =
+      word-out (entry (64 * k)) 0 k (λ v. ltb v n) r v in
+      elim (eq? r 0) [
+        | inr d ↦ out (λ e. absurd (d e)) ∙ other-rank (64 * k) r v d ∙ sym (other-rank (64 * (k + 1)) r v d)
+        | inl e ↦ elim (le? (64 * k) v) [
+          | inr before ↦
+              out (λ _ a. absurd (omega arith)) ∙ and-yes (ltb v (64 * k)) _ (lt→ltb v (64 * k) before)
+              ∙ sym (and-yes (ltb v (64 * (k + 1))) _ (lt→ltb v (64 * (k + 1)) (omega arith)))
+          | inl from ↦ elim (le? (64 * k + 64) v) [
+            | inl past ↦
+                let late : (m : ℕ) → m ≤ v → entry m r v ≡ false =
+                λ m h. T-false {b = entry m r v} (λ t. omega (arith, ltb→lt v m (and-left (ltb v m) _ t))) in
+                out (λ _ _ b. absurd (omega arith)) ∙ late (64 * k) (omega arith) ∙ sym (late (64 * (k + 1)) (omega arith))
+            | inr here ↦
+                let in-word : withRowWord (entry (64 * k)) 0 k (λ v. ltb v n) r v ≡ ltb v n =
+                word-in (entry (64 * k)) 0 k (λ v. ltb v n) r v e from here in
+                let zero-rank : T (eqb 0 r) = true-T (eqb-yes 0 r (sym e)) in
+                in-word ∙ bool-ext (ltb v n) (entry (64 * (k + 1)) r v)
+                (λ t. and-intro (ltb v (64 * (k + 1))) _ (lt→ltb v (64 * (k + 1)) (omega arith)) (and-intro (ltb v n) (eqb 0 r) t zero-rank))
+                (λ t. and-left (ltb v n) (eqb 0 r) (and-right (ltb v (64 * (k + 1))) _ t))
+          ]
+        ]
+      ]
+
+  -- word by word the vertices enter their roster, in which none but them are
+  pub enrolled-word : (k x : ℕ) → 64 * k < S .most → Rest (λ j. ltb (64 * k + j) n) 0 x
+      → stored (enrolled K n (64 * k)) (rostersFrom S + S .row * 0 + 8 * k) x ≡ enrolled K n (64 * (k + 1))
+  unfolding enrolled fieldsOf empty
+  enrolled-word k x h r =
+      let table = rosters-table (fieldsOf (empty K n)) good in
+      store-word good table (entry (64 * k)) 0 k x (λ v. ltb v n) (omega arith) h (λ j l. r .same j (omega arith) l)
+      ∙ rows-same good table (withRowWord (entry (64 * k)) 0 k (λ v. ltb v n)) (entry (64 * (k + 1))) (λ r v l b. entry-word k r v)
+
+  pub enrolled-all : (m : ℕ) → S .most ≤ m → enrolled K n m ≡ write (empty K n)
+  unfolding enrolled write image fieldsOf empty
+  enrolled-all m h =
+      let f : Fields = fieldsOf (empty K n) in
+      rows-same good (rosters-table f good) (entry m) (roster f) (λ r v l b. and-yes (ltb v m) (roster f r v) (lt→ltb v m (omega arith)))

@@ -2,6 +2,7 @@
 pub mod Rows
 pub mod Pieces
 pub mod Tables
+pub mod Bits
 pub mod Images
 pub mod Apart
 pub mod Cleared

@@ -13,14 +13,14 @@ use lib.Bits.{bitAnd, bitOr, or-lt, and-le-l, or-zero-r, and-zero-r}
 use lib.Pow.{pow-lt}
 use borrow.Author.Tests.{eq-eqb, ne-eqb}
 use Rattle.model.specs.Counting.{bit, eachOnto, each, upd}
-use Rattle.model.specs.Parts.{num, bitOf, rowByte, Part, numbers, bytesOf}
+use Rattle.model.specs.Parts.{num, bitOf, rowByte, Part, bytesOf}
 use Rattle.model.proofs.Tests.{eq?}
 use Rattle.model.proofs.Counting.{sum-eq}
 use Rattle.model.proofs.Lists.{upd-same, upd-other}
 use Rattle.model.proofs.Chunks.{each-length, each-ext, rowByte-small, bit-rowByte, rowByte-of}
 use Rattle.model.proofs.Parts.{num-length, span, chunks, chunks-length, partAt, offset}
 use Rattle.bitset.proofs.Digits.{digit, digit-lt, digit-or, digit-and, digit-bit, digit-hole, or-one, and-one}
-use Rattle.layout.specs.Setters.{setNum}
+use Rattle.layout.specs.Setters.{setNum, put}
 
 -- ---- a number set in a list
 
@@ -97,12 +97,6 @@ module _ (w : ℕ) (f g : ℕ → ℕ) where
       ] ∙ sym (each-next new n)
 
 -- ---- a number set in one of some parts
-
--- the parts with the numbers of part k those of g
-abbrev pub put : ℕ → (ℕ → ℕ) → List Part → List Part
-put k g [] = []
-put zero g (p ∷ ps) = numbers (p .many) (p .width) g ∷ ps
-put (suc k) g (p ∷ ps) = p ∷ put k g ps
 
 pub put-ext : (k : ℕ) (ps : List Part) (f g : ℕ → ℕ) → ((u : ℕ) → u < partAt k ps .many → f u ≡ g u) → bytesOf (put k f ps) ≡ bytesOf (put k g ps)
 unfolding bytesOf

@@ -1,5 +1,7 @@
--- A vertex's row as a part of the rack's bytes: its members are the vertices to which the vertex owns an edge. Assumes nothing.
+-- A row as a part of the rack's bytes: the members of a vertex's row are the vertices to which it owns an edge, those of a roster the vertices of
+-- its rank. Assumes nothing.
 use mathlib.Core.Path.{_≡_, sym, ap, ap₂, _∙_, subst}
+use mathlib.Core.Bool.{Bool}
 use mathlib.Core.List.{List}
 use Prim.Native.Nat.{ℕ, _+_, _-_, _*_, _/_, _%_, _<_, _≤_}
 use native.Mathlib.Omega.{arith}
@@ -7,22 +9,49 @@ use lib.Dec.{T}
 use lib.ListN.{length, getD, take, drop, length-take, length-drop}
 use Rattle.model.specs.Counting.{count}
 use Rattle.model.specs.Shape.{Shape, GoodShape, rowsFrom}
-use Rattle.model.specs.Bytes.{ownsAt}
+use Rattle.model.specs.Bytes.{inRow, ownsAt}
 use Rattle.model.specs.Parts.{bitOf}
-use Rattle.model.proofs.Prefix.{count-ext}
+use Rattle.model.proofs.Prefix.{count-add, count-ext}
 use Rattle.bitset.specs.Row.{member, size, Nth, Next}
 use Rattle.bitset.proofs.Laws.{member-part}
-use Rattle.layout.specs.Setters.{Sized, NumberAt, rowPlace}
+use Rattle.layout.specs.Setters.{Sized, NumberAt, placeIn, rowPlace}
 use Rattle.layout.specs.Rows.{degreeAt, NthOwned, NextOwned}
 
--- a bit of row v, as a place of the whole buffer
-pub owns-place : (S : Shape) (bs : List ℕ) (v w : ℕ) → member bs (rowPlace S v w) ≡ ownsAt S bs v w
-unfolding member ownsAt
-owns-place S bs v w =
-    let at = rowsFrom S + S .row * v in
-    let p : (8 * at + w) / 8 ≡ rowsFrom S + (S .row * v + w / 8) = omega arith in
-    let q : (8 * at + w) % 8 ≡ w % 8 = omega arith in
+-- a bit of row v of those that stand from byte `from` on, as a place of the whole buffer
+pub row-place : (S : Shape) (bs : List ℕ) (from v w : ℕ) → member bs (placeIn S from v w) ≡ inRow S bs from v w
+unfolding member
+row-place S bs from v w =
+    let p : placeIn S from v w / 8 ≡ from + (S .row * v + w / 8) = omega arith in
+    let q : placeIn S from v w % 8 ≡ w % 8 = omega arith in
     ap₂ (λ (x y : ℕ). bitOf (getD bs x 0) y) p q
+
+pub owns-place : (S : Shape) (bs : List ℕ) (v w : ℕ) → member bs (rowPlace S v w) ≡ ownsAt S bs v w
+unfolding ownsAt
+owns-place S bs v w = row-place S bs (rowsFrom S) v w
+
+-- row v, where it begins, counted place by place
+pub row-count : {S : Shape} (bs : List ℕ) {from v at : ℕ} → NumberAt S from (S .row) v at
+    → count (λ w. member bs (8 * at + w)) (S .most) ≡ count (inRow S bs from v) (S .most)
+row-count {S} bs {from} {v} place =
+    count-ext _ (inRow S bs from v) (S .most) (λ w l. ap (λ (k : ℕ). member bs (8 * k + w)) (place .at) ∙ row-place S bs from v w)
+
+-- a stretch of bytes as the code cuts it out, counted place by place
+pub part-size : (bs : List ℕ) (a e : ℕ) → a ≤ e → e ≤ length bs → size (take (e - a) (drop a bs)) ≡ count (λ w. member bs (8 * a + w)) (8 * (e - a))
+unfolding size
+part-size bs a e h l =
+    let part : List ℕ = take (e - a) (drop a bs) in
+    let long : 8 * length part ≡ 8 * (e - a) = simp (length-take, length-drop) (omega arith) in
+    ap (count (member part)) long ∙ count-ext (member part) _ (8 * (e - a)) (λ w b. member-part bs a (e - a) w (omega arith))
+
+-- and two stretches, one after the other
+pub halves : (bs : List ℕ) (a m e : ℕ) → a ≤ m → m ≤ e → e ≤ length bs
+    → size (take (m - a) (drop a bs)) + size (take (e - m) (drop m bs)) ≡ count (λ w. member bs (8 * a + w)) (8 * (e - a))
+halves bs a m e h k l =
+    let p : ℕ → Bool = λ w. member bs (8 * a + w) in
+    let whole : 8 * (e - a) ≡ 8 * (m - a) + 8 * (e - m) = omega arith in
+    let second : count (λ w. member bs (8 * m + w)) (8 * (e - m)) ≡ count (λ j. p (8 * (m - a) + j)) (8 * (e - m)) =
+    count-ext _ _ (8 * (e - m)) (λ j b. ap (member bs) (omega arith)) in
+    ap₂ _+_ (part-size bs a m h (omega arith)) (part-size bs m e k l ∙ second) ∙ sym (count-add p (8 * (m - a)) (8 * (e - m))) ∙ ap (count p) (sym whole)
 
 -- the row that stands at `at`, as the code cuts it out
 abbrev rowOf : Shape → List ℕ → ℕ → List ℕ

@@ -7,12 +7,12 @@ use mathlib.Core.List.{List}
 use Prim.Native.Nat.{ℕ, zero, suc, _+_, _-_, _*_, _/_, _%_, _≤_, _<_}
 use native.Mathlib.Nat.{mul-comm, mul-suc, mul-le-mul-left, add-assoc, div-lt-iff-lt-mul, le-div-iff-mul-le, mod-lt, div-add-mod}
 use native.Mathlib.Omega.{arith}
-use lib.Dec.{T, ltb}
+use lib.Dec.{T}
 use lib.ListN.{length, getD, take, drop, length-take, length-drop}
 use lib.Seq.{getD-take, getD-drop}
 use Rattle.model.specs.Counting.{sum, count}
-use Rattle.model.specs.Shape.{Shape, GoodShape, ranksFrom, matesFrom, phisFrom, rowsFrom, rackLength}
-use Rattle.model.specs.Bytes.{noMate, rankAt, mateAt, phiAt, ownsAt}
+use Rattle.model.specs.Shape.{Shape, GoodShape, ranksFrom, matesFrom, phisFrom, rowsFrom, rostersFrom}
+use Rattle.model.specs.Bytes.{noMate, rankAt, mateAt, phiAt, inRow, ownsAt}
 use Rattle.model.specs.Parts.{numAt, num, bitOf}
 use Rattle.model.specs.Valid.{IsBytes}
 use Rattle.model.proofs.Tests.{eq?}
@@ -24,10 +24,10 @@ use Rattle.bitset.specs.Words.{Rest}
 use Rattle.bitset.proofs.Digits.{digit, digit-lt, digit-bitOf, bitOf-digit, digits-ext}
 use Rattle.bitset.proofs.Words.{digit-zero}
 use Rattle.bitset.proofs.Laws.{member-part}
-use Rattle.layout.specs.Setters.{Sized, rowPlace}
+use Rattle.layout.specs.Setters.{Sized, NumberAt, placeIn, rowPlace}
 use Rattle.layout.specs.Rows.{degreeAt}
 use Rattle.layout.proofs.Said.{says-by}
-use Rattle.layout.proofs.Rows.{owns-place}
+use Rattle.layout.proofs.Rows.{row-place, owns-place}
 
 -- ---- one byte throughout
 
@@ -119,7 +119,7 @@ module _ {S : Shape} (good : GoodShape S) (bs : List ℕ) (sized : Sized S bs) (
       (good .wide) (alike-zero (S .width)) (mul-le-mul-left (S .levels) up) e
       (ap (λ (x : ℕ). phisFrom S + S .width * x) (mul-comm (S .most) (S .levels))) (omega arith) s)
 
-  pub span-rows : IsBytes bs → Says b (AllFrom bs (rowsFrom S + S .row * n) (rackLength S) 0)
+  pub span-rows : IsBytes bs → Says b (AllFrom bs (rowsFrom S + S .row * n) (rostersFrom S) 0)
       → Says b ((v : ℕ) → v < S .most → n ≤ v → (w : ℕ) → w < S .most → T (ownsAt S bs v w) → ⊥)
   unfolding ownsAt
   span-rows bytes s =
@@ -129,34 +129,20 @@ module _ {S : Shape} (good : GoodShape S) (bs : List ℕ) (sized : Sized S bs) (
       let bit : j ≡ (8 * k + j) % 8 = omega arith in
       f v h l (8 * k + j) (omega (arith, good .rows)) (subst T (ap₂ (λ (x y : ℕ). bitOf (getD bs (rowsFrom S + (S .row * v + x)) 0) y) byte bit) o)))
       (table-says {P = λ i. getD bs (rowsFrom S + i) 0 ≡ 0} (S .row) n (S .most) (good .some)
-      (cut-says bs (rowsFrom S) (S .row * n) (S .row * S .most) (rowsFrom S + S .row * n) (rackLength S) 0 (mul-le-mul-left (S .row) up) refl
+      (cut-says bs (rowsFrom S) (S .row * n) (S .row * S .most) (rowsFrom S + S .row * n) (rostersFrom S) 0 (mul-le-mul-left (S .row) up) refl
       (omega (arith, mul-comm (S .most) (S .row))) (omega arith) s))
 
--- ---- the ranks and the rows, counted
+-- ---- words and rows
 
--- The bytes that are not 0 of a part within the ranks: the vertices from `from` on that have a rank above 0.
-pub nonzero-ranks : (bs : List ℕ) (from m : ℕ) → ranksFrom + from + m ≤ length bs
-    → let part = take m (drop (ranksFrom + from) bs) in
-    count (λ k. ltb 0 (getD part k 0)) (length part) ≡ count (λ k. ltb 0 (rankAt bs (from + k))) m
-unfolding rankAt
-nonzero-ranks bs from m h =
-    let part : List ℕ = take m (drop (ranksFrom + from) bs) in
-    let long : length part ≡ m = simp (length-take, length-drop) (omega arith) in
-    ap (count (λ k. ltb 0 (getD part k 0))) long
-    ∙ count-ext (λ k. ltb 0 (getD part k 0)) (λ k. ltb 0 (getD bs (ranksFrom + (from + k)) 0)) m
-    (λ k l.
-    let i : ranksFrom + from + k ≡ ranksFrom + (from + k) = omega arith in
-    ap (ltb 0) (getD-take m (drop (ranksFrom + from) bs) k 0 l ∙ getD-drop (ranksFrom + from) bs k 0 ∙ ap (λ (x : ℕ). getD bs x 0) i))
-
--- A word of a row, as edges.
-pub word-owns : (S : Shape) (bs : List ℕ) (v k x : ℕ) → Rest (λ j. member bs (8 * (rowsFrom S + S .row * v + 8 * k) + j)) 0 x
-    → Rest (λ j. ownsAt S bs v (64 * k + j)) 0 x
-word-owns S bs v k x r = record {
+-- A word of row v, of those that stand from byte `from` on.
+pub word-row : {S : Shape} (bs : List ℕ) {from v at : ℕ} (k x : ℕ) → NumberAt S from (S .row) v at
+    → Rest (λ j. member bs (8 * (at + 8 * k) + j)) 0 x → Rest (λ j. inRow S bs from v (64 * k + j)) 0 x
+word-row {S} bs {from} {v} {at} k x place r = record {
   fits = r .fits;
   none = r .none;
   same = λ j a b.
-      let e : 8 * (rowsFrom S + S .row * v + 8 * k) + j ≡ rowPlace S v (64 * k + j) = omega arith in
-      r .same j a b ∙ ap (member bs) e ∙ owns-place S bs v (64 * k + j);
+      let e : 8 * (at + 8 * k) + j ≡ placeIn S from v (64 * k + j) = omega (arith, place .at) in
+      r .same j a b ∙ ap (member bs) e ∙ row-place S bs from v (64 * k + j);
 }
 
 -- The rows of the vertices below n, as one row.

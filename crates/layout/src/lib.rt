@@ -3,17 +3,19 @@
 ghost use mathlib.Core.Path.{_≡_};
 ghost use mathlib.Core.Bool.{_||_};
 ghost use Prim.Native.Nat.{ℕ, _<_, _≤_, _+_, _*_};
-ghost use lib.Dec.{T, ltb};
+ghost use lib.Dec.{T};
 ghost use lib.ListN.{length, replicate};
-ghost use Rattle.model.specs.Shape.{low};
+ghost use Rattle.model.specs.Shape.{low, rackLength};
 ghost use Rattle.model.specs.State.{base, lowKind, empty};
 ghost use Rattle.model.specs.Counting.{sum, count};
+ghost use Rattle.bitset.specs.Row.{member};
 ghost use Rattle.model.specs.Bytes.{sizeAt, edgesAt, rankAt, mateAt, phiAt, ownsAt, write};
 ghost use Rattle.model.specs.Calls.{sized as sizedOf};
 ghost use Rattle.model.proofs.Facts.{Says};
-ghost use Rattle.layout.specs.Setters.{Sized, setEdges, setRank, setMate, setPhi, own as owned, disown as disowned, blanked};
+ghost use Rattle.layout.specs.Setters.{Sized, setEdges, setRank, setMate, setPhi, own as owned, disown as disowned, blanked, enrolled};
 ghost use Rattle.layout.specs.Rows.{degreeAt, NthOwned, NextOwned};
 
+pub mod rosters;
 pub mod shape;
 pub mod unused;
 pub mod walk;
@@ -95,22 +97,16 @@ pub fn rank(rack: &[u8], v: usize) -> u8
     rack[shape::rank_at(v)]
 }
 
-// Sets the rank of vertex v.
+// Sets the rank of vertex v, which passes from the roster of its old rank to that of the new one.
 pub fn set_rank(rack: &mut [u8], v: usize, x: u8)
     requires { ⌜ Sized low (now rack) ⌝ }
-    requires { ⌜ v < low .most ⌝ }
-    ensures { λ _. ⌜ now (rack .exit) ≡ setRank (now (rack .entry)) v x ⌝ }
+    requires { ⌜ (v < low .most) × (rankAt (now rack) v ≤ low .levels) × (x ≤ low .levels) ⌝ }
+    ensures { λ _. ⌜ now (rack .exit) ≡ setRank low (now (rack .entry)) v x ⌝ }
 {
+    let old = rank(rack, v) as usize;
+    bitset::remove(rack, shape::roster_at(old), v);
+    bitset::insert(rack, shape::roster_at(x as usize), v);
     rack[shape::rank_at(v)] = x;
-}
-
-// How many vertices have a rank above 0, in two halves: each is few enough to be summed in a byte.
-pub fn ranked(rack: &[u8]) -> usize
-    requires { ⌜ Sized low (now rack) ⌝ }
-    ensures { λ r. ⌜ r ≡ count (λ v. ltb 0 (rankAt (now (rack .entry)) v)) (low .most) ⌝ }
-{
-    let middle = shape::RANKS + shape::MOST / 2;
-    bitset::nonzero(&rack[shape::RANKS..middle]) + bitset::nonzero(&rack[middle..shape::MATES])
 }
 
 // The mate of vertex v, 65,535 if it is free.
@@ -198,14 +194,24 @@ pub fn disown(rack: &mut [u8], v: usize, w: usize)
     bitset::remove(rack, shape::row_at(v), w)
 }
 
+// How many places are in the row that begins at byte `at`, in two halves: each is few enough to be summed in a byte.
+fn size_of_row(rack: &[u8], at: usize) -> usize
+    requires { ⌜ Sized low (now rack) ⌝ }
+    requires { ⌜ at + low .row ≤ rackLength low ⌝ }
+    ensures { λ r. ⌜ r ≡ count (λ w. member (now (rack .entry)) (8 * at + w)) (low .most) ⌝ }
+{
+    let middle = at + shape::ROW / 2;
+    let end = at + shape::ROW;
+    bitset::size(&rack[at..middle]) + bitset::size(&rack[middle..end])
+}
+
 // How many edges vertex v owns.
 pub fn degree(rack: &[u8], v: usize) -> usize
     requires { ⌜ Sized low (now rack) ⌝ }
     requires { ⌜ v < low .most ⌝ }
     ensures { λ r. ⌜ r ≡ degreeAt low (now (rack .entry)) v ⌝ }
 {
-    let at = shape::row_at(v);
-    bitset::size(&rack[at..at + shape::ROW])
+    size_of_row(rack, shape::row_at(v))
 }
 
 // The k-th vertex, from 0, to which v owns an edge.
@@ -270,13 +276,23 @@ fn blank(rack: &mut [u8])
     fill(&mut rack[shape::MATES..shape::PHIS], 255);
 }
 
+// The rack of n vertices with no edge, but for its rosters, which are empty.
+fn found(rack: &mut [u8], n: u16)
+    requires { ⌜ Sized low (now rack) ⌝ }
+    requires { ⌜ n ≤ low .most ⌝ }
+    ensures { λ _. ⌜ now (rack .exit) ≡ enrolled lowKind n 0 ⌝ }
+{
+    blank(rack);
+    rack[shape::SIZE] = (n % 256) as u8;
+    rack[shape::SIZE + 1] = (n / 256) as u8;
+}
+
 // The rack of n vertices with no edge.
 pub fn clear(rack: &mut [u8], n: u16)
     requires { ⌜ Sized low (now rack) ⌝ }
     requires { ⌜ n ≤ low .most ⌝ }
     ensures { λ _. ⌜ now (rack .exit) ≡ write (empty lowKind n) ⌝ }
 {
-    blank(rack);
-    rack[shape::SIZE] = (n % 256) as u8;
-    rack[shape::SIZE + 1] = (n / 256) as u8;
+    found(rack, n);
+    rosters::enroll(rack, n as usize);
 }

@@ -1,16 +1,16 @@
 // Where the fields of a rack stand. Every size and offset of the rack is written here, and nowhere above this crate.
-ghost use Prim.Native.Nat.{_<_, _+_, _*_};
-ghost use Rattle.model.specs.Shape.{low, ranksFrom, matesFrom, phisFrom, rowsFrom};
+ghost use Prim.Native.Nat.{_<_, _≤_, _+_, _*_};
+ghost use Rattle.model.specs.Shape.{low, ranksFrom, matesFrom, phisFrom, rowsFrom, rostersFrom};
 ghost use Rattle.layout.specs.Setters.{NumberAt};
 
-// The most vertices that a rack has, the levels from 0 on, and the bytes of a row.
+// The most vertices that a rack has, the levels from 0 on, and the bytes of a row or a roster.
 pub const MOST: usize = 256;
 
 pub const LEVELS: usize = 4;
 
 pub const ROW: usize = 32;
 
-// Where the parts begin: n, the number of edges, the spare bytes, the ranks, the mates, the counts, the rows.
+// Where the parts begin: n, the number of edges, the spare bytes, the ranks, the mates, the counts, the rows, the rosters.
 pub const SIZE: usize = 0;
 
 pub const EDGES: usize = 2;
@@ -25,8 +25,10 @@ pub const PHIS: usize = MATES + 2 * MOST;
 
 pub const ROWS: usize = PHIS + MOST * LEVELS;
 
+pub const ROSTERS: usize = ROWS + MOST * ROW;
+
 // The bytes of a rack.
-pub const RACK_BYTES: usize = ROWS + MOST * ROW;
+pub const RACK_BYTES: usize = ROSTERS + (LEVELS + 1) * ROW;
 
 // Where the rank of vertex v stands.
 pub fn rank_at(v: usize) -> usize
@@ -58,4 +60,12 @@ pub fn row_at(v: usize) -> usize
     ensures { λ r. ⌜ NumberAt low (rowsFrom low) (low .row) v r ⌝ }
 {
     ROWS + ROW * v
+}
+
+// Where the roster of rank r stands.
+pub fn roster_at(r: usize) -> usize
+    requires { ⌜ r ≤ low .levels ⌝ }
+    ensures { λ at. ⌜ NumberAt low (rostersFrom low) (low .row) r at ⌝ }
+{
+    ROSTERS + ROW * r
 }

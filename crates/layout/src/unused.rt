@@ -54,7 +54,7 @@ fn rows_unused(rack: &[u8], n: usize) -> bool
     ensures { λ r. ⌜ Says r ((v : ℕ) → v < low .most → n ≤ v → (w : ℕ) → w < low .most → T (ownsAt low (now (rack .entry)) v w) → ⊥) ⌝ }
 {
     let from = shape::ROWS + shape::ROW * n;
-    bitset::is_zero(&rack[from..shape::RACK_BYTES])
+    bitset::is_zero(&rack[from..shape::ROSTERS])
 }
 
 // Whether the entries from vertex n on are those of vertices that are none.

@@ -1,10 +1,13 @@
 // Whole words of a vertex's row: 64 places at once.
 ghost use mathlib.Core.Path.{_≡_};
-ghost use Prim.Native.Nat.{_+_, _<_, _*_};
+ghost use Prim.Native.Nat.{ℕ, _+_, _<_, _*_};
+ghost use lib.Dec.{T, ltb};
 ghost use Rattle.model.specs.Shape.{low};
 ghost use Rattle.model.specs.Bytes.{ownsAt};
+ghost use Rattle.model.proofs.Facts.{Says};
 ghost use Rattle.bitset.specs.Words.{Rest};
 ghost use Rattle.layout.specs.Setters.{Sized, setWord};
+use crate::shape;
 
 // 64 places of the row of v, from 64 k on, as one word.
 pub fn word(rack: &[u8], v: usize, k: usize) -> u64
@@ -13,7 +16,7 @@ pub fn word(rack: &[u8], v: usize, k: usize) -> u64
     requires { ⌜ 64 * k < low .most ⌝ }
     ensures { λ r. ⌜ Rest (λ j. ownsAt low (now (rack .entry)) v (64 * k + j)) 0 r ⌝ }
 {
-    bitset::word(rack, crate::shape::row_at(v) + 8 * k)
+    bitset::word(rack, shape::row_at(v) + 8 * k)
 }
 
 // Sets the 64 places of the row of v from 64 k on to the bits of x.
@@ -23,5 +26,31 @@ pub fn set_word(rack: &mut [u8], v: usize, k: usize, x: u64)
     requires { ⌜ 64 * k < low .most ⌝ }
     ensures { λ _. ⌜ now (rack .exit) ≡ setWord low (now (rack .entry)) v k x ⌝ }
 {
-    bitset::set_word(rack, crate::shape::row_at(v) + 8 * k, x)
+    bitset::set_word(rack, shape::row_at(v) + 8 * k, x)
+}
+
+// The vertices below n among the 64 from 64 k on, as one word.
+pub fn below(n: usize, k: usize) -> u64
+    requires { ⌜ 64 * k < low .most ⌝ }
+    ensures { λ r. ⌜ Rest (λ j. ltb (64 * k + j) n) 0 r ⌝ }
+{
+    if n <= 64 * k {
+        return 0;
+    }
+    bitset::first_places(n - 64 * k)
+}
+
+// Whether the row of v is empty.
+pub fn is_empty(rack: &[u8], v: usize) -> bool
+    requires { ⌜ Sized low (now rack) ⌝ }
+    requires { ⌜ v < low .most ⌝ }
+    ensures { λ r. ⌜ Says r ((w : ℕ) → w < low .most → T (ownsAt low (now (rack .entry)) v w) → ⊥) ⌝ }
+{
+    let mut all: u64 = 0;
+    let mut k = 0;
+    while 64 * k < shape::MOST {
+        all = all | word(rack, v, k);
+        k += 1;
+    }
+    all == 0
 }

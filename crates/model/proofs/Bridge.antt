@@ -3,19 +3,20 @@
 -- Assumes nothing.
 use mathlib.Core.Path.{_≡_, sym, ap, subst, _∙_}
 use mathlib.Core.Logic.{_≢_, _⊎_, inl, inr, _↔_}
+use mathlib.Core.Bool.{_&&_}
 use mathlib.Core.List.{List}
 use Prim.Native.Nat.{ℕ, suc, _-_, _≤_, _<_}
 use native.Mathlib.Omega.{arith}
-use lib.Dec.{T}
+use lib.Dec.{T, ltb, eqb, ltb→lt, lt→ltb}
 use lib.ListN.{length}
 use Rattle.model.specs.Shape.{Shape, GoodShape, low, rackLength}
 use Rattle.model.specs.State.{Rules, base, State, edge, phi, edges}
-use Rattle.model.specs.Bytes.{noMate, sizeAt, rankAt, mateAt, phiAt, ownsAt, named, read, mateEntry, fieldsOf, write}
+use Rattle.model.specs.Bytes.{noMate, sizeAt, rankAt, mateAt, phiAt, ownsAt, rosterAt, roster, named, read, mateEntry, fieldsOf, write}
 use Rattle.model.specs.Sound.{sound}
 use Rattle.model.specs.Valid.{IsBytes, Valid}
-use Rattle.model.proofs.Tests.{eq?, le?, bool-ext, or-cases}
+use Rattle.model.proofs.Tests.{eq?, le?, bool-ext, and-yes, and-left, or-cases}
 use Rattle.model.proofs.Shapes.{low-good, low-room}
-use Rattle.model.proofs.Fields.{size-write, edges-write, spare-write, rank-write, mate-write, phi-write, owns-write, image-bytes, Shows, image-is}
+use Rattle.model.proofs.Fields.{size-write, edges-write, spare-write, rank-write, mate-write, phi-write, owns-write, roster-write, image-bytes, Shows, image-is}
 use Rattle.model.proofs.Facts.{Unused, Mated, Facts, sound-says}
 use Rattle.model.proofs.Reading.{read-shape, named-free, named-mate, read-size, read-rank, read-rank-past, read-mate, read-mate-past, read-owns, read-owned, not-marker, read-write}
 use Rattle.model.proofs.Limits.{edges-fit, edge-within, phi-none, mateEntry-free, mateEntry-mate, size-few, mate-past, mate-inside, phi-past, phi-few, mateEntry-few}
@@ -92,6 +93,12 @@ module _ {R : Rules} {s : State} (good : GoodShape (s .kind .shape)) (top : R .t
       λ e. mate-write s good v (placed v l) ∙ mateEntry-free s v (ok .low-free v (sym (rank-write s good v (placed v l)) ∙ e)),
     );
     phi-low = λ v l j h. omega (arith, phi-write s good v j (placed v l) (omega arith), ok .phi-low v j (omega arith));
+    rosters = λ v l r h.
+        roster-write s good r v h (placed v l) ∙ and-yes (ltb v (s .n)) (eqb (s .rank v) r) (lt→ltb v (s .n) (omega (arith, size-write s good)))
+        ∙ ap (λ (x : ℕ). eqb x r) (sym (rank-write s good v (placed v l)));
+    clear = λ r h v l p t.
+        let below : T (ltb v (s .n)) = and-left (ltb v (s .n)) (eqb (s .rank v) r) (subst T (roster-write s good r v h l) t) in
+        omega (arith, ltb→lt v (s .n) below, size-write s good);
   }
 
 -- what is written of a valid state is sound
@@ -241,8 +248,18 @@ module _ {R : Rules} {S : Shape} {bs : List ℕ} (good : GoodShape S) (top : R .
     ]
   ]
 
+  same-roster : (r v : ℕ) → r < suc (S .levels) → v < S .most → rosterAt S bs r v ≡ (ltb v (read S bs .n) && eqb (read S bs .rank v) r)
+  same-roster r v h l = elim (le? (sizeAt bs) v) [
+    | inl p ↦
+        bool-ext (rosterAt S bs r v) (ltb v (read S bs .n) && eqb (read S bs .rank v) r) (λ t. absurd (f .clear r h v l p t))
+        (λ t. absurd (omega (arith, ltb→lt v (read S bs .n) (and-left (ltb v (read S bs .n)) _ t), read-size S bs)))
+    | inr k ↦
+        f .rosters v k r h ∙ ap (λ (x : ℕ). eqb x r) (sym (read-rank S bs v k))
+        ∙ sym (and-yes (ltb v (read S bs .n)) (eqb (read S bs .rank v) r) (lt→ltb v (read S bs .n) (omega (arith, read-size S bs))))
+  ]
+
   shown : Shows (fieldsOf (read S bs)) bs
-  unfolding fieldsOf read
+  unfolding fieldsOf read roster
   shown = record {
     size = sym (read-size S bs);
     edges = f .edges;
@@ -251,6 +268,7 @@ module _ {R : Rules} {S : Shape} {bs : List ℕ} (good : GoodShape S) (top : R .
     mate = same-mate;
     phi = same-phi;
     owns = same-owns;
+    roster = same-roster;
   }
 
 -- sound bytes are the writing of their own reading, which is valid
@@ -267,6 +285,6 @@ pub bridge : (R : Rules) (S : Shape) → GoodShape S → R .top < S .levels → 
     → T (sound R S bs) ↔ ((bs ≡ write (read S bs)) × Valid R (read S bs))
 bridge R S good top bs hb e = (sound-valid R S good top bs hb e, λ h. valid-sound R S good top bs (h .0) (h .1))
 
--- The 9,992 bytes of document 01's rack.
-pub bridge-low : (bs : List ℕ) → IsBytes bs → length bs ≡ 9992 → T (sound base low bs) ↔ ((bs ≡ write (read low bs)) × Valid base (read low bs))
+-- The 10,152 bytes of the papers' rack.
+pub bridge-low : (bs : List ℕ) → IsBytes bs → length bs ≡ 10152 → T (sound base low bs) ↔ ((bs ≡ write (read low bs)) × Valid base (read low bs))
 bridge-low = bridge base low low-good low-room

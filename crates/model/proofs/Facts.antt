@@ -1,5 +1,5 @@
 -- What each test of a sound rack says, as a fact about its bytes, and that it is that fact that is tested. Assumes nothing.
-use mathlib.Core.Path.{_≡_}
+use mathlib.Core.Path.{_≡_, refl, sym, subst}
 use mathlib.Core.Logic.{_≢_}
 use mathlib.Core.Bool.{Bool, true, false, not, _&&_, _||_}
 use mathlib.Core.List.{List}
@@ -10,8 +10,8 @@ use lib.ListN.{getD}
 use Rattle.model.specs.Counting.{every}
 use Rattle.model.specs.Shape.{Shape}
 use Rattle.model.specs.State.{Rules, edge, phi, edges}
-use Rattle.model.specs.Bytes.{noMate, sizeAt, edgesAt, rankAt, mateAt, phiAt, ownsAt, read}
-use Rattle.model.specs.Sound.{spareZero, unused, pastUnused, pastUnnamed, sizeGood, ranksGood, noLoop, ownedOnce, edgesRight, phiRight, ownerHigh, mated, matesGood, freeLow, phiLow, sound}
+use Rattle.model.specs.Bytes.{noMate, sizeAt, edgesAt, rankAt, mateAt, phiAt, ownsAt, rosterAt, read}
+use Rattle.model.specs.Sound.{spareZero, unused, pastUnused, pastUnnamed, sizeGood, ranksGood, noLoop, ownedOnce, edgesRight, phiRight, ownerHigh, mated, matesGood, freeLow, phiLow, agree, rostersRight, rostersClear, sound}
 use Rattle.model.proofs.Tests.{eqb-yes, true-T, and-intro, and-left, and-right}
 use Rattle.model.proofs.Counting.{every-all, all-every}
 
@@ -46,6 +46,13 @@ or-says {a = false} f g = record { fact = λ h k. g .fact h; test = λ h. g .tes
 pub imp-says : {a b : Bool} {P Q : Type 0} → Says a P → Says b Q → Says (not a || b) (P → Q)
 imp-says {a = true} f g = record { fact = λ h k. g .fact h; test = λ h. g .test (h (f .fact tt)) }
 imp-says {a = false} f g = record { fact = λ h k. absurd (f .test k); test = λ h. tt }
+
+pub agree-says : (a b : Bool) → Says (agree a b) (a ≡ b)
+unfolding agree
+agree-says true true = record { fact = λ h. refl; test = λ h. tt }
+agree-says true false = record { fact = λ h. absurd h; test = λ h. subst T h tt }
+agree-says false true = record { fact = λ h. absurd h; test = λ h. subst T (sym h) tt }
+agree-says false false = record { fact = λ h. refl; test = λ h. tt }
 
 pub past-says : (v n : ℕ) {b : Bool} {Q : Type 0} → Says b Q → Says (ltb v n || b) (n ≤ v → Q)
 past-says v n g =
@@ -149,6 +156,17 @@ module _ (S : Shape) (bs : List ℕ) where
   unfolding phiLow
   phiLow-says R = every-says (sizeAt bs) (λ v. every-says (suc (R .top)) (λ j. leb-says (suc (phiAt S bs v j)) (R .thr j)))
 
+  pub rostersRight-says : Says (rostersRight S bs) ((v : ℕ) → v < sizeAt bs → (r : ℕ) → r < suc (S .levels) → rosterAt S bs r v ≡ eqb (rankAt bs v) r)
+  unfolding rostersRight
+  rostersRight-says =
+      every-says (sizeAt bs) (λ v. every-says (suc (S .levels)) (λ r. agree-says (rosterAt S bs r v) (eqb (rankAt bs v) r)))
+
+  pub rostersClear-says : Says (rostersClear S bs)
+      ((r : ℕ) → r < suc (S .levels) → (v : ℕ) → v < S .most → sizeAt bs ≤ v → T (rosterAt S bs r v) → ⊥)
+  unfolding rostersClear
+  rostersClear-says =
+      every-says (suc (S .levels)) (λ r. every-says (S .most) (λ v. past-says v (sizeAt bs) (not-says (self-says (rosterAt S bs r v)))))
+
 -- all that is tested of a sound rack, in the order of the tests
 pub record Facts (R : Rules) (S : Shape) (bs : List ℕ) : Type 0 where
   pub spare : (k : ℕ) → k < 2 + S .spare → getD bs (4 + k) 0 ≡ 0
@@ -164,6 +182,8 @@ pub record Facts (R : Rules) (S : Shape) (bs : List ℕ) : Type 0 where
   pub mated : (v : ℕ) → v < sizeAt bs → mateAt S bs v ≢ noMate → Mated S bs v (mateAt S bs v)
   pub free-low : (v : ℕ) → v < sizeAt bs → (mateAt S bs v ≡ noMate → rankAt bs v ≡ 0) × (rankAt bs v ≡ 0 → mateAt S bs v ≡ noMate)
   pub phi-low : (v : ℕ) → v < sizeAt bs → (j : ℕ) → j < suc (R .top) → phiAt S bs v j < R .thr j
+  pub rosters : (v : ℕ) → v < sizeAt bs → (r : ℕ) → r < suc (S .levels) → rosterAt S bs r v ≡ eqb (rankAt bs v) r
+  pub clear : (r : ℕ) → r < suc (S .levels) → (v : ℕ) → v < S .most → sizeAt bs ≤ v → T (rosterAt S bs r v) → ⊥
 
 both : {P Q : Type 0} → P → Q → P × Q
 both p q = (p, q)
@@ -174,7 +194,8 @@ sound-says R S bs =
     let e =
     and-says (spareZero-says S bs) (and-says (pastUnused-says S bs) (and-says (pastUnnamed-says S bs) (and-says (sizeGood-says S (sizeAt bs))
     (and-says (ranksGood-says S bs R) (and-says (noLoop-says S bs) (and-says (ownedOnce-says S bs) (and-says (edgesRight-says S bs)
-    (and-says (phiRight-says S bs) (and-says (ownerHigh-says S bs) (and-says (matesGood-says S bs) (and-says (freeLow-says S bs) (phiLow-says S bs R)))))))))))) in
+    (and-says (phiRight-says S bs) (and-says (ownerHigh-says S bs) (and-says (matesGood-says S bs) (and-says (freeLow-says S bs)
+    (and-says (phiLow-says S bs R) (and-says (rostersRight-says S bs) (rostersClear-says S bs)))))))))))))) in
     record {
       fact = λ h.
           let a = e .fact h in
@@ -193,9 +214,12 @@ sound-says R S bs =
             owner-high = c .1 .0;
             mated = c .1 .1 .0;
             free-low = c .1 .1 .1 .0;
-            phi-low = c .1 .1 .1 .1;
+            phi-low = c .1 .1 .1 .1 .0;
+            rosters = c .1 .1 .1 .1 .1 .0;
+            clear = c .1 .1 .1 .1 .1 .1;
           };
       test = λ f. e .test (both (f .spare) (both (f .unused) (both (f .unnamed) (both (f .size)
           (both (f .ranks) (both (f .no-loop) (both (f .owned-once) (both (f .edges)
-          (both (f .phi) (both (f .owner-high) (both (f .mated) (both (f .free-low) (f .phi-low)))))))))))));
+          (both (f .phi) (both (f .owner-high) (both (f .mated) (both (f .free-low)
+          (both (f .phi-low) (both (f .rosters) (f .clear)))))))))))))));
     }

@@ -1,19 +1,22 @@
 -- Each field of an image, and of a rack that is written: one law of parts, a line a field. Assumes nothing.
-use mathlib.Core.Path.{_≡_, sym, ap, ap₂, _∙_}
+use mathlib.Core.Bool.{_&&_}
+use mathlib.Core.Path.{_≡_, sym, ap, _∙_}
 use mathlib.Core.Logic.{inl, inr}
 use mathlib.Core.List.{List}
-use Prim.Native.Nat.{ℕ, _+_, _-_, _*_, _/_, _%_, _^_, _≤_, _<_}
+use Prim.Native.Nat.{ℕ, suc, _+_, _-_, _*_, _/_, _%_, _^_, _≤_, _<_}
 use native.Mathlib.Nat.{div-add-mod}
 use native.Mathlib.Omega.{arith}
+use lib.Dec.{ltb, eqb}
 use lib.ListN.{length, getD}
-use Rattle.model.specs.Shape.{Shape, GoodShape, ranksFrom, matesFrom, phisFrom, rowsFrom, rackLength}
+use Rattle.model.specs.Shape.{Shape, GoodShape, ranksFrom, matesFrom, phisFrom, rowsFrom, rostersFrom, rackLength}
 use Rattle.model.specs.State.{State, phi, edges}
-use Rattle.model.specs.Parts.{numAt, bitOf, rowByte, byRows}
-use Rattle.model.specs.Bytes.{half, sizeAt, edgesAt, rankAt, mateAt, phiAt, ownsAt, Fields, parts, image, mateEntry, fieldsOf, write}
+use Rattle.model.specs.Parts.{numAt, rowByte, byRows}
+use Rattle.model.specs.Bytes.{half, sizeAt, edgesAt, rankAt, mateAt, phiAt, ownsAt, rosterAt, Fields, roster, parts, image, mateEntry, fieldsOf, write}
 use Rattle.model.specs.Valid.{IsBytes}
 use Rattle.model.proofs.Tests.{eq?}
-use Rattle.model.proofs.Chunks.{rowByte-small, bit-rowByte, rowByte-of}
+use Rattle.model.proofs.Chunks.{rowByte-small}
 use Rattle.model.proofs.Limits.{edges-fit}
+use Rattle.model.proofs.Rows.{Rows, rows-bit, bits-rows}
 use Rattle.model.proofs.Parts.{rows-at, rows-inside, in-rows, bytes-length, next, Has, bytes-number, bytes-are, Fit, bytes-small}
 
 -- the number that stands at k, which is m
@@ -68,19 +71,21 @@ module _ (f : Fields) (good : GoodShape (f .kind .shape)) where
       (omega (arith, good .spare))
       ∙ rows-at (f .phi) (shape .levels) v j h
 
-  pub row-byte : (v k : ℕ) → v < shape .most → k < shape .row → getD (image f) (rowsFrom shape + (shape .row * v + k)) 0 ≡ rowByte (f .owns v) k
+  rows-image : Rows shape (image f) (rowsFrom shape) (shape .most) (f .owns)
   unfolding image numAt
-  row-byte v k l h =
-      let i : ℕ = shape .row * v + k in
-      bytes-number 7 (parts f) i (rowsFrom shape + i) (rows-inside (shape .most) (shape .row) v k l h) (omega arith) (omega (arith, good .spare))
-      ∙ rows-at (λ v. rowByte (f .owns v)) (shape .row) v k h
+  rows-image i l = bytes-number 7 (parts f) i (rowsFrom shape + i) l (omega arith) (omega (arith, good .spare))
 
   pub owns-image : (v w : ℕ) → v < shape .most → w < shape .most → ownsAt shape (image f) v w ≡ f .owns v w
   unfolding ownsAt
-  owns-image v w l h =
-      let e : 8 * (w / 8) + w % 8 ≡ w = omega arith in
-      ap (λ (x : ℕ). bitOf x (w % 8)) (row-byte v (w / 8) l (omega (arith, good .rows)))
-      ∙ bit-rowByte (f .owns v) (w / 8) (w % 8) (omega arith) ∙ ap (f .owns v) e
+  owns-image = rows-bit good (image f) (rowsFrom shape) (shape .most) (f .owns) rows-image
+
+  rosters-image : Rows shape (image f) (rostersFrom shape) (suc (shape .levels)) (roster f)
+  unfolding image numAt
+  rosters-image i l = bytes-number 8 (parts f) i (rostersFrom shape + i) l (omega arith) (omega (arith, good .spare))
+
+  pub roster-image : (r v : ℕ) → r < suc (shape .levels) → v < shape .most → rosterAt shape (image f) r v ≡ roster f r v
+  unfolding rosterAt
+  roster-image = rows-bit good (image f) (rostersFrom shape) (suc (shape .levels)) (roster f) rosters-image
 
 -- ---- bytes that show the fields are their image
 
@@ -92,6 +97,7 @@ pub record Shows (f : Fields) (bs : List ℕ) : Type 0 where
   pub mate : (v : ℕ) → v < f .kind .shape .most → mateAt (f .kind .shape) bs v ≡ f .mate v
   pub phi : (v j : ℕ) → v < f .kind .shape .most → j < f .kind .shape .levels → phiAt (f .kind .shape) bs v j ≡ f .phi v j
   pub owns : (v w : ℕ) → v < f .kind .shape .most → w < f .kind .shape .most → ownsAt (f .kind .shape) bs v w ≡ f .owns v w
+  pub roster : (r v : ℕ) → r < suc (f .kind .shape .levels) → v < f .kind .shape .most → rosterAt (f .kind .shape) bs r v ≡ roster f r v
 
 module _ (f : Fields) (good : GoodShape (f .kind .shape)) (bs : List ℕ) (bytes : IsBytes bs) (shows : Shows f bs) where
   abbrev S : Shape
@@ -109,17 +115,13 @@ module _ (f : Fields) (good : GoodShape (f .kind .shape)) (bs : List ℕ) (bytes
       let e : i ≡ S .levels * (i / S .levels) + i % S .levels = sym (div-add-mod i (S .levels)) in
       ap (λ (x : ℕ). numAt (S .width) bs (phisFrom S + S .width * x)) e ∙ shows .phi (i / S .levels) (i % S .levels) (p .0) (p .1)
 
-  shown-row : (i : ℕ) → i < S .most * S .row → getD bs (rowsFrom S + i) 0 ≡ byRows (S .row) (λ v. rowByte (f .owns v)) i
+  shown-row : Rows S bs (rowsFrom S) (S .most) (f .owns)
   unfolding ownsAt
-  shown-row i l =
-      let v : ℕ = i / S .row in
-      let k : ℕ = i % S .row in
-      let p = in-rows (S .most) (S .row) i l in
-      sym (rowByte-of (getD bs (rowsFrom S + i) 0) (bytes (rowsFrom S + i)) (f .owns v) k (λ b c.
-      let at : S .row * v + (8 * k + b) / 8 ≡ i = omega (arith, div-add-mod i (S .row)) in
-      let bit : (8 * k + b) % 8 ≡ b = omega arith in
-      sym (shows .owns v (8 * k + b) (p .0) (omega (arith, good .rows, p .1)))
-      ∙ ap₂ (λ (x y : ℕ). bitOf (getD bs (rowsFrom S + x) 0) y) at bit))
+  shown-row = bits-rows good bs (rowsFrom S) (S .most) (f .owns) bytes (shows .owns)
+
+  shown-roster : Rows S bs (rostersFrom S) (suc (S .levels)) (roster f)
+  unfolding rosterAt
+  shown-roster = bits-rows good bs (rostersFrom S) (suc (S .levels)) (roster f) bytes (shows .roster)
 
   pub image-is : length bs ≡ rackLength S → bs ≡ image f
   unfolding image Has sizeAt edgesAt rankAt mateAt numAt
@@ -134,7 +136,8 @@ module _ (f : Fields) (good : GoodShape (f .kind .shape)) (bs : List ℕ) (bytes
       (next (λ i l w. num-at 1 bs _ (ranksFrom + i) (omega (arith, good .spare)) (shows .rank i l))
       (next (λ i l w. num-at 2 bs _ (matesFrom S + 2 * i) (omega (arith, good .spare)) (shows .mate i l))
       (next (λ i l w. num-at (S .width) bs _ (phisFrom S + S .width * i) (omega (arith, good .spare)) (shown-phi i l))
-      (next (λ i l w. num-at 1 bs _ (rowsFrom S + i) (omega (arith, good .spare)) (shown-row i l)) tt))))))))
+      (next (λ i l w. num-at 1 bs _ (rowsFrom S + i) (omega (arith, good .spare)) (shown-row i l))
+      (next (λ i l w. num-at 1 bs _ (rostersFrom S + i) (omega (arith, good .spare)) (shown-roster i l)) tt)))))))))
 
 -- ---- when what is written is bytes
 
@@ -158,7 +161,8 @@ image-bytes f good h =
     (next (h .rank)
     (next (h .mate)
     (next (λ i l. let p = in-rows (S .most) (S .levels) i l in h .phi (i / S .levels) (i % S .levels) (p .0) (p .1))
-    (next (λ i l. rowByte-small (f .owns (i / S .row)) (i % S .row)) tt))))))))
+    (next (λ i l. rowByte-small (f .owns (i / S .row)) (i % S .row))
+    (next (λ i l. rowByte-small (roster f (i / S .row)) (i % S .row)) tt)))))))))
 
 -- ---- a rack, written
 
@@ -197,3 +201,7 @@ module _ (s : State) (good : GoodShape (s .kind .shape)) where
   pub owns-write : (v w : ℕ) → v < of .most → w < of .most → ownsAt of (write s) v w ≡ s .owns v w
   unfolding write fieldsOf
   owns-write = owns-image (fieldsOf s) good
+
+  pub roster-write : (r v : ℕ) → r < suc (of .levels) → v < of .most → rosterAt of (write s) r v ≡ (ltb v (s .n) && eqb (s .rank v) r)
+  unfolding write fieldsOf roster
+  roster-write = roster-image (fieldsOf s) good

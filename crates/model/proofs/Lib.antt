@@ -7,8 +7,10 @@ pub mod Lists
 pub mod Chunks
 pub mod Shapes
 pub mod Parts
+pub mod Rows
 pub mod Fields
 pub mod Facts
+pub mod Rosters
 pub mod Limits
 pub mod Reading
 pub mod Bridge
@@ -19,3 +21,4 @@ pub mod Hands
 pub mod Order
 pub mod Mean
 pub mod Example
+pub mod RosterBytes

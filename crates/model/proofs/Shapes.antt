@@ -3,15 +3,15 @@
 use mathlib.Core.Path.{_≡_, refl}
 use mathlib.Core.Bool.{_&&_}
 use mathlib.Core.List.{[], _∷_}
-use Prim.Native.Nat.{suc, _+_, _*_, _<_}
+use Prim.Native.Nat.{suc, _+_, _*_, _%_, _<_}
 use native.Mathlib.Omega.{arith}
 use lib.Dec.{eqb}
 use lib.ListN.{take, drop}
 use Rattle.model.specs.Counting.{sum, eachOnto, each}
 use Rattle.model.specs.Parts.{numAt, num, rowByte, bytesOf}
-use Rattle.model.specs.Shape.{Shape, GoodShape, low, matesFrom, phisFrom, rowsFrom, rackLength}
+use Rattle.model.specs.Shape.{Shape, GoodShape, low, matesFrom, phisFrom, rowsFrom, rostersFrom, rackLength}
 use Rattle.model.specs.State.{base}
-use Rattle.model.specs.Bytes.{edgesAt, mateAt, phiAt, Fields, image}
+use Rattle.model.specs.Bytes.{edgesAt, mateAt, phiAt, Fields, roster, image}
 
 pub low-good : GoodShape low
 low-good = record {
@@ -39,9 +39,10 @@ low-full = refl
 pub low-room : base .top < low .levels
 low-room = omega (arith, low-full)
 
--- "8: one byte a board", "264: two bytes a board", "776: four bytes a board", "1,800: 32 bytes a board", "Exactly 9,992 bytes"
-pub low-places : (matesFrom low ≡ 264) × (phisFrom low ≡ 776) × (rowsFrom low ≡ 1800) × (rackLength low ≡ 9992)
-low-places = (refl, refl, refl, refl)
+-- "8: one byte a board", "264: two bytes a board", "776: four bytes a board", "1,800: 32 bytes a board"; "at offset 9,992 five rosters", "Its
+-- length becomes 10,152"
+pub low-places : (matesFrom low ≡ 264) × (phisFrom low ≡ 776) × (rowsFrom low ≡ 1800) × (rostersFrom low ≡ 9992) × (rackLength low ≡ 10152)
+low-places = (refl, refl, refl, refl, refl)
 
 -- ---- another shape
 
@@ -64,14 +65,14 @@ other-good = record {
   figures = omega arith;
 }
 
--- fields, no rack's: a number in each place that tells where it stands
+-- fields, no rack's: but for the ranks, a number in each place that tells where it stands
 unfoldable pub marked : Fields
 unfolding other
 marked = record {
   kind = record { shape = other };
   n = 5;
   edges = 70000;
-  rank = λ v. v;
+  rank = λ v. v % 3;
   mate = λ v. 1000 + v;
   phi = λ v j. 300 * v + j;
   owns = λ v w. eqb v 2 && eqb w 13;
@@ -91,6 +92,11 @@ marked-counts = refl
 pub marked-row : take 8 (drop (rowsFrom other + 16) (image marked)) ≡ 0 ∷ 32 ∷ 0 ∷ 0 ∷ 0 ∷ 0 ∷ 0 ∷ 0 ∷ []
 unfolding marked other image bytesOf each eachOnto num rowByte sum
 marked-row = refl
+
+-- the roster of rank 2: of the five vertices 2 alone has it, and 5, which has it too, is none
+pub marked-roster : take 8 (drop (rostersFrom other + 16) (image marked)) ≡ 4 ∷ 0 ∷ 0 ∷ 0 ∷ 0 ∷ 0 ∷ 0 ∷ 0 ∷ []
+unfolding marked other image bytesOf each eachOnto num rowByte roster sum
+marked-roster = refl
 
 -- and they are read where they were written
 pub marked-read : (edgesAt other (image marked) ≡ 70000) × (mateAt other (image marked) 63 ≡ 1063) × (phiAt other (image marked) 4 2 ≡ 1202)

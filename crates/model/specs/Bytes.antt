@@ -1,11 +1,11 @@
--- Document 01, "Rack bytes": how a rack of a given shape lies in its bytes, and what bytes say of a rack. The offsets that the paper names are
--- those of the shape `low`. Assumes nothing.
+-- Document 01, "Rack bytes", with the rosters of W-205: how a rack of a given shape lies in its bytes, and what bytes say of a rack. The
+-- offsets that the papers name are those of the shape `low`. Assumes nothing.
 use mathlib.Core.Bool.{Bool, true, false, _&&_}
 use mathlib.Core.List.{List, [], _∷_}
-use Prim.Native.Nat.{ℕ, _+_, _-_, _*_, _/_, _%_}
+use Prim.Native.Nat.{ℕ, suc, _+_, _-_, _*_, _/_, _%_}
 use lib.Dec.{ltb, eqb}
 use lib.ListN.{getD}
-use Rattle.model.specs.Shape.{Shape, ranksFrom, matesFrom, phisFrom, rowsFrom}
+use Rattle.model.specs.Shape.{Shape, ranksFrom, matesFrom, phisFrom, rowsFrom, rostersFrom}
 use Rattle.model.specs.State.{Kind, State, phi, edges}
 use Rattle.model.specs.Parts.{numAt, bitOf, rowByte, Part, numbers, byRows, bytesOf}
 
@@ -38,9 +38,17 @@ mateAt S bs v = numAt 2 bs (matesFrom S + 2 * v)
 unfoldable pub phiAt : Shape → List ℕ → ℕ → ℕ → ℕ
 phiAt S bs v j = numAt (S .width) bs (phisFrom S + S .width * (S .levels * v + j))
 
+-- "Bit w mod 8 (bit 0 lowest) of byte w div 8": whether w is in row v of the rows of bits that stand from byte `from` on
+abbrev pub inRow : Shape → List ℕ → ℕ → ℕ → ℕ → Bool
+inRow S bs from v w = bitOf (getD bs (from + (S .row * v + w / 8)) 0) (w % 8)
+
 -- "1,800: 32 bytes a board, its row. Bit w mod 8 (bit 0 lowest) of byte w div 8 in row v is set if v owns the link v-w."
 unfoldable pub ownsAt : Shape → List ℕ → ℕ → ℕ → Bool
-ownsAt S bs v w = bitOf (getD bs (rowsFrom S + (S .row * v + w / 8)) 0) (w % 8)
+ownsAt S bs v w = inRow S bs (rowsFrom S) v w
+
+-- "at offset 9,992 five rosters of 32 bytes, for levels -1 to 3, with a board's bit laid out as in a row": whether v is in the roster of rank r
+unfoldable pub rosterAt : Shape → List ℕ → ℕ → ℕ → Bool
+rosterAt S bs r v = inRow S bs (rostersFrom S) r v
 
 -- the mate that the entry m of v names: v itself, if v is free
 unfoldable pub named : ℕ → ℕ → ℕ
@@ -68,7 +76,11 @@ pub record Fields : Type 0 where
   pub phi : ℕ → ℕ → ℕ
   pub owns : ℕ → ℕ → Bool
 
--- the fields, one after the other, "4 to 7: zero"
+-- The roster of rank r: "each board below n is in the roster of its level and in none besides, with the other bits clear"
+unfoldable pub roster : Fields → ℕ → ℕ → Bool
+roster f r v = ltb v (f .n) && eqb (f .rank v) r
+
+-- the fields, one after the other, "4 to 7: zero"; the rosters are computed
 abbrev pub parts : Fields → List Part
 parts f =
     let S = f .kind .shape in
@@ -80,6 +92,7 @@ parts f =
     ∷ numbers (S .most) 2 (f .mate)
     ∷ numbers (S .most * S .levels) (S .width) (byRows (S .levels) (f .phi))
     ∷ numbers (S .most * S .row) 1 (byRows (S .row) (λ v. rowByte (f .owns v)))
+    ∷ numbers (suc (S .levels) * S .row) 1 (byRows (S .row) (λ r. rowByte (roster f r)))
     ∷ []
 
 unfoldable pub image : Fields → List ℕ
@@ -89,7 +102,7 @@ image f = bytesOf (parts f)
 unfoldable pub mateEntry : State → ℕ → ℕ
 mateEntry s v = elim (eqb (s .mate v) v) [ true ↦ noMate | false ↦ s .mate v ]
 
--- A rack, written. The number of edges and the counts are computed: "Counts always agree with their definition after a move."
+-- A rack, written. The number of edges, the counts and the rosters are computed: "Counts always agree with their definition after a move."
 -- "Entries of boards n to 255 are level byte 0, mate 65,535, counts 0, empty row, and no row names them."
 unfoldable pub fieldsOf : State → Fields
 fieldsOf s = record { kind = s .kind; n = s .n; edges = edges s; rank = s .rank; mate = mateEntry s; phi = phi s; owns = s .owns }

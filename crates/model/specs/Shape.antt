@@ -1,4 +1,4 @@
--- How large a rack is, and where each part of its bytes stands. Document 01 has one shape, `low`. Assumes nothing.
+-- How large a rack is, and where each part of its bytes stands. Document 01 has one shape, `low`; the rosters are W-205's. Assumes nothing.
 use mathlib.Core.Path.{_≡_}
 use Prim.Native.Nat.{ℕ, suc, _+_, _*_, _%_, _^_, _≤_, _<_}
 
@@ -10,7 +10,7 @@ pub record Shape : Type 0 where
   pub levels : ℕ
   -- the bytes of a count
   pub width : ℕ
-  -- the bytes of a row of bits, one for each vertex
+  -- the bytes of a row of bits, one for each vertex; a roster is such a row
   pub row : ℕ
   -- how many of the bytes 6 and 7 are zero in every rack; the others hold what of the number of edges two bytes don't
   pub spare : ℕ
@@ -19,7 +19,7 @@ pub record Shape : Type 0 where
 abbrev pub low : Shape
 low = record { most = 256; levels = 4; width = 1; row = 32; spare = 2 }
 
--- Where the parts begin, one after the other: ranks, mates, counts, rows. Before them stand the numbers of vertices and edges.
+-- Where the parts begin, one after the other: ranks, mates, counts, rows, rosters. Before them stand the numbers of vertices and edges.
 abbrev pub ranksFrom : ℕ
 ranksFrom = 8
 
@@ -32,9 +32,13 @@ phisFrom S = matesFrom S + 2 * S .most
 abbrev pub rowsFrom : Shape → ℕ
 rowsFrom S = phisFrom S + S .width * (S .most * S .levels)
 
--- "Exactly 9,992 bytes"
+-- "The rack gains at offset 9,992 five rosters of 32 bytes, for levels -1 to 3": one for each rank
+abbrev pub rostersFrom : Shape → ℕ
+rostersFrom S = rowsFrom S + S .most * S .row
+
+-- "Its length becomes 10,152"
 abbrev pub rackLength : Shape → ℕ
-rackLength S = rowsFrom S + S .most * S .row
+rackLength S = rostersFrom S + suc (S .levels) * S .row
 
 -- What is asked of a shape. Everything that is shown of a rack is shown for any shape that has it.
 pub record GoodShape (S : Shape) : Type 0 where

@@ -1,5 +1,6 @@
--- Document 01, "A rack is sound if ..": a test for each condition, in the paper's order, for any bytes at all. Assumes nothing.
-use mathlib.Core.Bool.{Bool, not, _&&_, _||_}
+-- Document 01, "A rack is sound if ..", and W-205, "A rack is sound only if ..": a test for each condition, in the papers' order, for any
+-- bytes at all. Assumes nothing.
+use mathlib.Core.Bool.{Bool, true, false, not, _&&_, _||_}
 use mathlib.Core.List.{List}
 use Prim.Native.Nat.{ℕ, suc, _+_}
 use lib.Dec.{leb, ltb, eqb}
@@ -7,7 +8,7 @@ use lib.ListN.{getD}
 use Rattle.model.specs.Counting.{every}
 use Rattle.model.specs.Shape.{Shape}
 use Rattle.model.specs.State.{Rules, edge, phi, edges}
-use Rattle.model.specs.Bytes.{noMate, sizeAt, edgesAt, rankAt, mateAt, phiAt, ownsAt, read}
+use Rattle.model.specs.Bytes.{noMate, sizeAt, edgesAt, rankAt, mateAt, phiAt, ownsAt, rosterAt, read}
 
 -- "bytes 4 to 7 are zero": 4 and 5, and of 6 and 7 those that are spare
 unfoldable pub spareZero : Shape → List ℕ → Bool
@@ -68,9 +69,23 @@ freeLow S bs = every (λ v. (not (eqb (mateAt S bs v) noMate) || eqb (rankAt bs 
 unfoldable pub phiLow : Rules → Shape → List ℕ → Bool
 phiLow R S bs = every (λ v. every (λ j. ltb (phiAt S bs v j) (R .thr j)) (suc (R .top))) (sizeAt bs)
 
--- "A rack is sound if bytes 4 to 7 are zero, the entries of boards n to 255 are as just said, and all this holds: .."
+-- whether both hold or neither
+unfoldable pub agree : Bool → Bool → Bool
+agree true b = b
+agree false b = not b
+
+-- "A rack is sound only if each board below n is in the roster of its level and in none besides"
+unfoldable pub rostersRight : Shape → List ℕ → Bool
+rostersRight S bs = every (λ v. every (λ r. agree (rosterAt S bs r v) (eqb (rankAt bs v) r)) (suc (S .levels))) (sizeAt bs)
+
+-- "with the other bits clear"
+unfoldable pub rostersClear : Shape → List ℕ → Bool
+rostersClear S bs = every (λ r. every (λ v. ltb v (sizeAt bs) || not (rosterAt S bs r v)) (S .most)) (suc (S .levels))
+
+-- "A rack is sound if bytes 4 to 7 are zero, the entries of boards n to 255 are as just said, and all this holds: ..", and W-205's two more
 unfoldable pub sound : Rules → Shape → List ℕ → Bool
 sound R S bs =
     spareZero S bs && (pastUnused S bs && (pastUnnamed S bs
     && (sizeGood S (sizeAt bs) && (ranksGood R bs && (noLoop S bs && (ownedOnce S bs && (edgesRight S bs && (phiRight S bs
-    && (ownerHigh S bs && (matesGood S bs && (freeLow S bs && phiLow R S bs)))))))))))
+    && (ownerHigh S bs && (matesGood S bs && (freeLow S bs && (phiLow R S bs
+    && (rostersRight S bs && rostersClear S bs)))))))))))))

@@ -3,7 +3,7 @@
 use mathlib.Core.Path.{_≡_, refl, sym, ap, _∙_, subst, fun-ext}
 use mathlib.Core.Logic.{_≢_, inl, inr}
 use mathlib.Core.Bool.{Bool, true, false, _&&_, _||_}
-use Prim.Native.Nat.{ℕ, suc, _+_, _*_, _^_, _≤_, _<_}
+use Prim.Native.Nat.{ℕ, suc, _+_, _*_, _≤_, _<_}
 use lib.Dec.{T, eqb, leb, eqb→eq, leb→le, le→leb, lt→ltb, ltb→lt, not-T, T-not}
 use Rattle.model.specs.Counting.{upd}
 use Rattle.model.specs.Shape.{Shape, GoodShape}
@@ -15,7 +15,8 @@ use Rattle.model.proofs.Tests.{eq?, holds?, bool-ext, true-T, T-true, T-false, 
 use Rattle.model.proofs.Lists.{upd-same, upd-other}
 use Rattle.theory.proofs.Ownership.{out, back, rest, turned}
 use Rattle.layout.specs.Setters.{own, setWord}
-use Rattle.layout.proofs.Images.{withOwns, withWord, word-in, word-out, image-ext, own-image, setWord-image}
+use Rattle.layout.proofs.Bits.{word-in, word-out}
+use Rattle.layout.proofs.Images.{withOwns, withWord, image-ext, own-image, setWord-image}
 use Rattle.moves.specs.Proper.{Proper}
 use Rattle.moves.specs.Handing.{sameLevel, otherLevel, inWord}
 use Rattle.moves.proofs.Owning.{ownersOf}
@@ -151,23 +152,23 @@ module _ {S : Shape} (s : State) (p : Proper S s) (i v k : ℕ) where
   ]
 
   gone-owns : (x y : ℕ) → withWord (ownersOf s (gains v gone (s .owns))) v k (otherLevel s i v) .owns x y ≡ ownedBy v gone false (s .owns) x y
-  unfolding ownersOf
+  unfolding ownersOf withWord
   gone-owns x y = elim (holds? (eqb x v && inWord k 64 y)) [
     | inl a ↦
         let e : x ≡ v = eqb→eq x v (and-left (eqb x v) _ a) in
         let r = word-is k 64 y (and-right (eqb x v) _ a) in
-        word-in (ownersOf s (gains v gone (s .owns))) v k (otherLevel s i v) x y e (r .0) (r .1) ∙ gone-in x y e (r .0) (r .1)
+        word-in (gains v gone (s .owns)) v k (otherLevel s i v) x y e (r .0) (r .1) ∙ gone-in x y e (r .0) (r .1)
     | inr a ↦
         let d : x ≡ v → 64 * k ≤ y → y < 64 * k + 64 → ⊥ = λ e b c. a (and-intro (eqb x v) _ (true-T (eqb-yes x v e)) (word-of k 64 y b c)) in
-        word-out (ownersOf s (gains v gone (s .owns))) v k (otherLevel s i v) x y d ∙ gone-out x y d
+        word-out (gains v gone (s .owns)) v k (otherLevel s i v) x y d ∙ gone-out x y d
   ]
 
-  pub word-gone : (x : ℕ) → v < s .kind .shape .most → 64 * k < s .kind .shape .most → x < 2 ^ 64
+  pub word-gone : (x : ℕ) → v < s .kind .shape .most → 64 * k < s .kind .shape .most
       → ((j : ℕ) → j < 64 → bitOf x j ≡ otherLevel s i v (64 * k + j))
       → setWord (s .kind .shape) (image (ownersOf s (gains v gone (s .owns)))) v k x ≡ image (ownersOf s (ownedBy v gone false (s .owns)))
   unfolding ownersOf withWord
-  word-gone x l m fits same =
-      setWord-image (ownersOf s (gains v gone (s .owns))) (p .good) v k x (otherLevel s i v) l m fits same
+  word-gone x l m same =
+      setWord-image (ownersOf s (gains v gone (s .owns))) (p .good) v k x (otherLevel s i v) l m same
       ∙ image-ext (withWord (ownersOf s (gains v gone (s .owns))) v k (otherLevel s i v)) (ownersOf s (ownedBy v gone false (s .owns))) (p .good) (record {
         kind = refl;
         n = refl;

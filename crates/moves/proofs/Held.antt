@@ -1,19 +1,20 @@
 -- Bytes that are the writing of a proper state: what each accessor reads there. Assumes nothing.
 use mathlib.Core.Path.{_≡_, sym, ap, ap₂, _∙_, subst}
 use mathlib.Core.Logic.{inl, inr}
+use mathlib.Core.Bool.{Bool, _&&_}
 use mathlib.Core.List.{List}
 use Prim.Native.Nat.{ℕ, _≤_, _<_}
 use native.Mathlib.Omega.{arith}
-use lib.Dec.{T, ltb, ltb→lt}
+use lib.Dec.{T, ltb, eqb, ltb→lt, lt→ltb}
 use lib.ListN.{length}
 use Rattle.model.specs.Counting.{count}
 use Rattle.model.specs.Shape.{Shape, GoodShape}
 use Rattle.model.specs.State.{base, State, phi, edges}
-use Rattle.model.specs.Bytes.{sizeAt, edgesAt, rankAt, mateAt, phiAt, ownsAt, mateEntry, read, write}
+use Rattle.model.specs.Bytes.{sizeAt, edgesAt, rankAt, mateAt, phiAt, ownsAt, rosterAt, mateEntry, read, write}
 use Rattle.model.specs.Valid.{Valid}
-use Rattle.model.proofs.Tests.{eq?}
+use Rattle.model.proofs.Tests.{eq?, and-left, and-yes}
 use Rattle.model.proofs.Prefix.{count-ext, count-skip}
-use Rattle.model.proofs.Fields.{write-length, edges-write, rank-write, mate-write, phi-write, owns-write}
+use Rattle.model.proofs.Fields.{write-length, edges-write, rank-write, mate-write, phi-write, owns-write, roster-write}
 use Rattle.model.proofs.Limits.{mate-past, mate-inside}
 use Rattle.model.proofs.Reading.{read-size, read-back}
 use Rattle.layout.specs.Setters.{Sized}
@@ -104,12 +105,18 @@ module _ {S : Shape} {bs : List ℕ} (h : Held S bs) where
       count-ext (ownsAt S bs v) (read S bs .owns v) (S .most) (λ w k. held-owns v w l k)
       ∙ sym (count-skip (read S bs .owns v) (read S bs .n) (S .most) held-few (λ w a b t. omega (arith, h .proper .inside v w t .1)))
 
-  -- the ranks above 0 are those of the vertices
-  pub held-ranked : count (λ v. ltb 0 (rankAt bs v)) (S .most) ≡ count (λ v. ltb 0 (read S bs .rank v)) (read S bs .n)
-  held-ranked =
-      count-ext (λ v. ltb 0 (rankAt bs v)) (λ v. ltb 0 (read S bs .rank v)) (S .most) (λ v l. ap (ltb 0) (held-rank v l))
-      ∙ sym (count-skip (λ v. ltb 0 (read S bs .rank v)) (read S bs .n) (S .most) held-few
-      (λ v a b t. omega (arith, h .proper .past-rank v a, ltb→lt 0 (read S bs .rank v) t)))
+  -- the roster of a rank has the vertices of that rank
+  pub held-roster : (r v : ℕ) → r ≤ S .levels → v < S .most → rosterAt S bs r v ≡ (ltb v (read S bs .n) && eqb (read S bs .rank v) r)
+  unfolding read
+  held-roster r v k l = ap (λ (x : List ℕ). rosterAt S x r v) (h .written) ∙ roster-write (read S bs) held-good r v (omega arith) l
+
+  -- and as many as there are
+  pub held-rostered : (r : ℕ) → r ≤ S .levels → count (rosterAt S bs r) (S .most) ≡ count (λ v. eqb (read S bs .rank v) r) (read S bs .n)
+  held-rostered r k =
+      let p : ℕ → Bool = λ v. ltb v (read S bs .n) && eqb (read S bs .rank v) r in
+      count-ext (rosterAt S bs r) p (S .most) (λ v l. held-roster r v k l)
+      ∙ sym (count-skip p (read S bs .n) (S .most) held-few (λ v a b t. omega (arith, ltb→lt v (read S bs .n) (and-left (ltb v (read S bs .n)) _ t))))
+      ∙ count-ext p _ (read S bs .n) (λ v l. and-yes (ltb v (read S bs .n)) _ (lt→ltb v (read S bs .n) l))
 
   -- a vertex has its place
   pub held-small : (v : ℕ) → v < read S bs .n → v < S .most

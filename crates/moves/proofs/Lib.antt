@@ -12,4 +12,9 @@ pub mod Owning
 pub mod Handing
 pub mod HandWord
 pub mod HandWords
+pub mod Search
+pub mod Turning
 pub mod Taking
+pub mod TakeWord
+pub mod TakeRank
+pub mod Owed

@@ -1,5 +1,5 @@
 -- The steps of entering a level and of a fall lead to the writing of the state with the new rank. Assumes nothing.
-use mathlib.Core.Path.{_≡_, ap, _∙_}
+use mathlib.Core.Path.{_≡_, sym, ap, _∙_}
 use mathlib.Core.Bool.{Bool}
 use mathlib.Core.List.{List}
 use Prim.Native.Nat.{ℕ, suc, _+_, _≤_, _<_}
@@ -8,7 +8,8 @@ use native.Mathlib.Omega.{arith}
 use lib.Dec.{T}
 use Rattle.model.specs.Shape.{Shape}
 use Rattle.model.specs.State.{base, State, edge, below, phi, edges}
-use Rattle.model.specs.Bytes.{image, mateEntry, fieldsOf, write}
+use Rattle.model.specs.Bytes.{rankAt, Fields, image, mateEntry, fieldsOf, write}
+use Rattle.model.proofs.Fields.{rank-image}
 use Rattle.model.proofs.Facts.{Says}
 use Rattle.layout.specs.Setters.{setRank, setPhi}
 use Rattle.layout.proofs.Images.{withRank, setRank-image}
@@ -21,14 +22,28 @@ use Rattle.moves.proofs.Recount.{phi-fits, enter-own, enter-phi, fall-o
 use Rattle.moves.proofs.CountSteps.{setCount-proper, recounted-proper}
 
 -- a new rank, where the counts are those of the new rank already
-ranked-image : {S : Shape} (s : State) → Proper S s → (v x : ℕ) → v < S .most
-    → setRank (image (withCounts (fieldsOf s) (phi (ranked v x s)))) v x ≡ write (ranked v x s)
+ranked-image : {S : Shape} (s : State) → Proper S s → (v x : ℕ) → v < s .n → x ≤ suc (base .top)
+    → setRank S (image (withCounts (fieldsOf s) (phi (ranked v x s)))) v x ≡ write (ranked v x s)
 unfolding withRank withCounts fieldsOf write ranked edges edge mateEntry
-ranked-image s p v x l =
-    setRank-image (withCounts (fieldsOf s) (phi (ranked v x s))) (p .good) v x (omega (arith, ap (λ (T : Shape). T .most) (p .shape)))
+ranked-image {S} s p v x l h =
+    let f : Fields = withCounts (fieldsOf s) (phi (ranked v x s)) in
+    ap (λ (T : Shape). setRank T (image f) v x) (sym (p .shape))
+    ∙ setRank-image f (p .good) v x l (omega (arith, p .few)) (omega (arith, p .ranks v, p .room)) (omega (arith, p .room))
+
+-- whatever the counts are, the rank is one that has a roster
+pub rank-listed : {S : Shape} (s : State) → Proper S s → (counts : ℕ → ℕ → ℕ) (v : ℕ) → v < s .n
+    → (bs : List ℕ) → bs ≡ image (withCounts (fieldsOf s) counts) → rankAt bs v ≤ S .levels
+unfolding withCounts fieldsOf
+rank-listed s p counts v l bs e =
+    omega (
+      arith,
+      ap (λ (b : List ℕ). rankAt b v) e ∙ rank-image (withCounts (fieldsOf s) counts) (p .good) v (omega (arith, p .few)),
+      p .ranks v,
+      proper-room p,
+    )
 
 module _ {S : Shape} (s : State) (p : Proper S s) (i v : ℕ) (l : v < s .n) (top : i ≤ base .top) (row : RowBelow i v s) where
-  enter-counts : s .rank v ≤ i
+  pub enter-counts : s .rank v ≤ i
       → recounted S none (image (withCounts (fieldsOf s) (loweredCounts s i v))) v 0 (i + 1)
       ≡ image (withCounts (fieldsOf s) (phi (ranked v (suc i) s)))
   enter-counts r =
@@ -37,20 +52,20 @@ module _ {S : Shape} (s : State) (p : Proper S s) (i v : ℕ) (l : v < s .n) (to
       (λ w j d. enter-phi s p i v w j l r row (λ e. omega (arith, d e (omega arith))))
 
   pub enter-bytes : s .rank v ≤ i
-      → setRank (recounted S none (image (withCounts (fieldsOf s) (loweredCounts s i v))) v 0 (i + 1)) v (i + 1) ≡ write (ranked v (suc i) s)
+      → setRank S (recounted S none (image (withCounts (fieldsOf s) (loweredCounts s i v))) v 0 (i + 1)) v (i + 1) ≡ write (ranked v (suc i) s)
   enter-bytes r =
-      ap (λ (bs : List ℕ). setRank bs v (i + 1)) (enter-counts r) ∙ rw add-one (ranked-image s p v (suc i) (omega (arith, proper-few p)))
+      ap (λ (bs : List ℕ). setRank S bs v (i + 1)) (enter-counts r) ∙ rw add-one (ranked-image s p v (suc i) l (omega arith))
 
   module _ (r : s .rank v ≡ suc i) where
     -- the count of v at i is the number of its neighbours below i
-    fall-counts : setPhi S (image (withCounts (fieldsOf s) (raisedCounts s i v))) v i (below s v i)
+    pub fall-counts : setPhi S (image (withCounts (fieldsOf s) (raisedCounts s i v))) v i (below s v i)
         ≡ image (withCounts (fieldsOf s) (phi (ranked v i s)))
     fall-counts =
         setCount-proper s p (raisedCounts s i v) v i (below s v i) (phi (ranked v i s)) (omega (arith, proper-few p))
         (omega (arith, proper-room p)) (fall-own s p i v) (λ w j d. fall-phi s p i v w j l r row d)
 
-    pub fall-bytes : setRank (setPhi S (image (withCounts (fieldsOf s) (raisedCounts s i v))) v i (below s v i)) v i ≡ write (ranked v i s)
-    fall-bytes = ap (λ (bs : List ℕ). setRank bs v i) fall-counts ∙ ranked-image s p v i (omega (arith, proper-few p))
+    pub fall-bytes : setRank S (setPhi S (image (withCounts (fieldsOf s) (raisedCounts s i v))) v i (below s v i)) v i ≡ write (ranked v i s)
+    fall-bytes = ap (λ (bs : List ℕ). setRank S bs v i) fall-counts ∙ ranked-image s p v i l (omega arith)
 
     pub fall-fits : below s v i < S .most
     fall-fits = omega (arith, fall-own s p i v, phi-fits (ranked v i s) (ranked-proper s p v i l (omega arith)) v i)

@@ -1,9 +1,9 @@
 -- What holds of every rack between two steps of a move, settled or not: bytes that are the writing of a proper state. Assumes nothing.
 use mathlib.Core.Path.{_≡_}
-use mathlib.Core.Bool.{true}
+use mathlib.Core.Bool.{Bool, true, _&&_}
 use mathlib.Core.List.{List}
 use Prim.Native.Nat.{ℕ, suc, _≤_, _<_}
-use lib.Dec.{T}
+use lib.Dec.{T, eqb}
 use Rattle.model.specs.Shape.{Shape, GoodShape}
 use Rattle.model.specs.State.{base, State, near}
 use Rattle.model.specs.Bytes.{read, write}
@@ -33,6 +33,14 @@ Ordered s = (v w : ℕ) → T (s .owns v w) → s .rank w ≤ s .rank v
 pub record Held (S : Shape) (bs : List ℕ) : Type 0 where
   pub written : bs ≡ write (read S bs)
   pub proper : Proper S (read S bs)
+
+-- w, of rank q, owns an edge to u
+unfoldable pub ownerAt : State → ℕ → ℕ → ℕ → Bool
+ownerAt s q u w = s .owns w u && eqb (s .rank w) q
+
+-- u owns its edges to the vertices that pass p
+unfoldable pub tookFrom : (ℕ → Bool) → ℕ → State → State
+tookFrom p u s = reown s (ownedBy u p true (s .owns))
 
 -- u owns every edge to a vertex below level i: the owners after the first half of a rise
 unfoldable pub tookOver : ℕ → ℕ → State → State

@@ -11,10 +11,12 @@ ghost use Rattle.model.specs.Bytes.{phiAt, image, fieldsOf, read, write};
 ghost use Rattle.model.specs.Moves.{part as parted, rise as risen, marry as paired, handOver};
 ghost use Rattle.model.proofs.Facts.{Says};
 ghost use Rattle.theory.specs.Handing.{handedOn};
-ghost use Rattle.layout.specs.Setters.{Sized, own as owned, disown as disowned};
-ghost use Rattle.moves.specs.Proper.{Ordered, Held, tookOver, ranked, RowBelow};
+ghost use Rattle.layout.specs.Setters.{Sized};
+ghost use Rattle.moves.specs.Proper.{Ordered, Held, ranked, RowBelow};
 ghost use Rattle.moves.specs.Handing.{sameLevel, otherLevel, inWord, handedIn};
 ghost use Rattle.moves.specs.Counts.{withCounts, step, CanStep, largestCount, none, recounted, loweredCounts, raisedCounts};
+
+mod takeover;
 
 // v's pair is parted; a free v stays as it is.
 pub fn part(rack: &mut [u8], v: usize)
@@ -40,44 +42,13 @@ pub fn pair(rack: &mut [u8], u: usize, y: usize)
     layout::set_mate(rack, y, u as u16);
 }
 
-// The edge v-w passes from v to w.
-fn pass(rack: &mut [u8], v: usize, w: usize)
-    requires { ⌜ Sized low (now rack) ⌝ }
-    requires { ⌜ (v < low .most) × (w < low .most) ⌝ }
-    ensures { λ _. ⌜ now (rack .exit) ≡ owned low (disowned low (now (rack .entry)) v w) w v ⌝ }
-{
-    layout::disown(rack, v, w);
-    layout::own(rack, w, v);
-}
-
-// u takes every edge to a vertex below level i: the first half of a rise. Its count at i less the edges that it owns already says how many
-// owners are still to be found, so that the walk needs no other end.
-fn take_over(rack: &mut [u8], u: usize, i: usize)
-    requires { ⌜ Held low (now rack) ⌝ }
-    requires { ⌜ (u < read low (now rack) .n) × (read low (now rack) .rank u ≤ i) × (i ≤ base .top) ⌝ }
-    requires { ⌜ ((w : ℕ) → T (read low (now rack) .owns u w) → read low (now rack) .rank w ≤ i) ⌝ }
-    ensures { λ _. ⌜ now (rack .exit) ≡ write (tookOver i u (read low (now (rack .entry)))) ⌝ }
-{
-    let mut missing = layout::phi(rack, u, i) as usize - layout::degree(rack, u);
-    let mut w = 0;
-    while 0 < missing {
-        if layout::owns(rack, w, u) {
-            if layout::rank(rack, w) as usize <= i {
-                pass(rack, w, u);
-                missing -= 1;
-            }
-        }
-        w += 1;
-    }
-}
-
 // What a pass over the row of a waiting vertex answers: how many edges it handed on, and how many vertices are below.
 pub struct Split {
     pub handed: usize,
     pub below: usize,
 }
 
-// The pass over word k of v's row, with what it came to so far. What stays of the word is gathered and written at its end.
+// The pass over word k of v's row, with what it came to so far: what goes is also in the roster of v's level, the rest stays.
 fn hand_word(rack: &mut [u8], v: usize, i: usize, k: usize, split: Split) -> Split
     requires { ⌜ Held low (now rack) ⌝ }
     requires { ⌜ (v < read low (now rack) .n) × (read low (now rack) .rank v ≡ suc i) × (64 * k < low .most) ⌝ }
@@ -86,23 +57,21 @@ fn hand_word(rack: &mut [u8], v: usize, i: usize, k: usize, split: Split) -> Spl
     ensures { λ r. ⌜ r .handed ≡ split .handed + count (λ j. sameLevel (read low (now (rack .entry))) i v (64 * k + j)) 64 ⌝ }
     ensures { λ r. ⌜ r .below ≡ split .below + count (λ j. otherLevel (read low (now (rack .entry))) i v (64 * k + j)) 64 ⌝ }
 {
-    let mut handed = split.handed;
-    let mut below = split.below;
-    let mut kept: u64 = 0;
-    let mut x = layout::words::word(rack, v, k);
+    let row = layout::words::word(rack, v, k);
+    if row == 0 {
+        return split;
+    }
+    let go = row & layout::rosters::word(rack, i + 1, k);
+    let stay = row ^ go;
+    let mut x = go;
     while x != 0 {
         let w = layout::walk::place(k, x);
-        let rest = x & (x - 1);
-        if layout::rank(rack, w) as usize == i + 1 {
-            layout::own(rack, w, v);
-            handed += 1;
-        } else {
-            kept += x - rest;
-            below += 1;
-        }
-        x = rest;
+        layout::own(rack, w, v);
+        x = x & (x - 1);
     }
-    layout::words::set_word(rack, v, k, kept);
+    layout::words::set_word(rack, v, k, stay);
+    let handed = split.handed + bitset::word_ones(go);
+    let below = split.below + bitset::word_ones(stay);
     Split { handed, below }
 }
 
@@ -202,12 +171,12 @@ fn enter(rack: &mut [u8], u: usize, i: usize)
 
 // "Rise of u to i: u takes ownership of every link to a board then below i. Other owners stand."
 pub fn rise(rack: &mut [u8], u: usize, i: usize)
-    requires { ⌜ Held low (now rack) ⌝ }
+    requires { ⌜ (Held low (now rack)) × (Ordered (read low (now rack))) ⌝ }
     requires { ⌜ (u < read low (now rack) .n) × (read low (now rack) .rank u ≤ i) × (i ≤ base .top) ⌝ }
     requires { ⌜ ((w : ℕ) → T (read low (now rack) .owns u w) → read low (now rack) .rank w ≤ i) ⌝ }
     ensures { λ _. ⌜ now (rack .exit) ≡ write (risen i u (read low (now (rack .entry)))) ⌝ }
 {
-    take_over(rack, u, i);
+    takeover::take_over(rack, u, i);
     enter(rack, u, i);
 }
 

@@ -4,7 +4,7 @@ ghost use mathlib.Core.Path.{_≡_};
 ghost use Rattle.model.specs.Shape.{low};
 ghost use Rattle.model.specs.Counting.{bit};
 ghost use Rattle.model.specs.State.{base, lowKind};
-ghost use Rattle.model.specs.Calls.{makeNumber, made, changeBytes, audit as auditOf, levelQuery, mateQuery, linkedQuery};
+ghost use Rattle.model.specs.Calls.{makeNumber, made, changeBytes, audit as auditOf, levelQuery, mateQuery, linkedQuery, rosterQuery};
 ghost use Rattle.model.specs.Run.{Ran};
 ghost use Rattle.changes.specs.Sounded.{brought};
 
@@ -97,6 +97,18 @@ pub extern "C" fn pairing_linked(rack: &[u8], v: u32, w: u32, linked: &mut u32) 
     let answer = engine::linked(rack, v, w);
     let found = answer.value;
     *linked = found;
+    answer.number
+}
+
+// The number of boards at a level, 0 for a level outside -1 to 3.
+#[no_mangle]
+pub extern "C" fn pairing_roster(rack: &[u8], level: i32, count: &mut u32) -> u32
+    ensures number { λ r. ⌜ r ≡ rosterQuery base low (now (rack .entry)) level .number ⌝ }
+    ensures count { λ _. ⌜ now (count .exit) ≡ rosterQuery base low (now (rack .entry)) level .value ⌝ }
+{
+    let answer = engine::roster(rack, level);
+    let found = answer.value;
+    *count = found;
     answer.number
 }
 

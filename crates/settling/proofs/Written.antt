@@ -89,10 +89,10 @@ module _ {S : Shape} {bs : List ℕ} {i v : ℕ} (a : Rising S bs i v) {b : List
   parted-read : b ≡ write (part v (read S bs)) → read S b ≡ part v (read S bs)
   parted-read e = reads-as b (part v (read S bs)) e (parted-proper a)
 
-  pub parted-rises : b ≡ write (part v (read S bs)) → Held S b × Rises i v (read S b)
+  pub parted-rises : b ≡ write (part v (read S bs)) → (Held S b × Ordered (read S b)) × Rises i v (read S b)
   unfolding part
   parted-rises e = (
-    held-of b (part v (read S bs)) e (parted-proper a),
+    (held-of b (part v (read S bs)) e (parted-proper a), subst Ordered (sym (parted-read e)) (a .ordered)),
     subst (Rises i v) (sym (parted-read e)) ((a .inside, a .low, a .level), (λ w t. omega (arith, a .low, a .ordered v w t))),
   )
 

@@ -3,7 +3,7 @@
 
 use crate::asked::Asked;
 use crate::Verdict;
-use pairing::{Audit, Level, Linked, Mate};
+use pairing::{Audit, Level, Linked, Mate, Roster};
 use reference::calls::change_rack;
 use reference::checks::random::Random;
 use reference::{Answer, Rack};
@@ -51,6 +51,7 @@ fn field(at: usize) -> String {
         264..=775 => format!("mate of {}", (at - 264) / 2),
         776..=1_799 => format!("count of {} at {}", (at - 776) / 4, at % 4),
         1_800..=9_991 => format!("row of {}", (at - 1_800) / 32),
+        9_992..=10_151 => format!("roster of level {}", (at - 9_992) as i32 / 32 - 1),
         _ => "past a rack".into(),
     }
 }
@@ -85,7 +86,7 @@ pub fn guarded<T>(
 }
 
 /// A call of the core that may only read the buffer.
-fn reading<T>(
+pub fn reading<T>(
     what: impl Display,
     buffer: &[u8],
     call: impl FnOnce(&[u8]) -> T,
@@ -142,6 +143,28 @@ pub fn linked(rack: &[u8], v: u32, w: u32) -> Result<(u32, u32), String> {
     Ok(wanted)
 }
 
+/// The numbers of vertices at these levels, asked for one after the other.
+pub fn rosters<const N: usize>(rack: &[u8], levels: [i32; N]) -> Result<[(u32, u32); N], String> {
+    let wanted = reference::rosters(rack, levels);
+    rosters_are(rack, levels, wanted)?;
+    Ok(wanted)
+}
+
+/// The same, where the answers are known.
+pub fn rosters_are<const N: usize>(
+    rack: &[u8],
+    levels: [i32; N],
+    wanted: [(u32, u32); N],
+) -> Verdict {
+    let ask = |rack: &[u8]| levels.map(|level| pairing::roster(rack, level));
+    let core = reading("rosters", rack, ask)?;
+    for ((level, Roster { number, count }), wanted) in levels.into_iter().zip(core).zip(wanted) {
+        let what = format_args!("boards at level {level}");
+        same(what, (number.0, count), wanted)?;
+    }
+    Ok(())
+}
+
 /// One change of the core, on a copy of a buffer, and the bytes after it.
 fn core_change(buffer: &[u8], asked: &Asked) -> Result<(Answer, Vec<u8>), String> {
     let lent = asked.words.clone();
@@ -180,7 +203,7 @@ impl Display for Asked {
 /// A rack that both go on changing: the core its bytes, the independent
 /// program what they tell of, so that it needn't read them again each time.
 pub struct Twin {
-    bytes: Vec<u8>,
+    pub bytes: Vec<u8>,
     pub rack: Rack,
 }
 

@@ -2,6 +2,7 @@
 
 use crate::asked::Asked;
 use crate::both::{self, same, Twin};
+use crate::rosters::LEVELS;
 use crate::Verdict;
 use reference::{Answer, Rack};
 
@@ -135,7 +136,17 @@ impl Case {
         Ok(twin)
     }
 
-    /// Asks for every level, mate and link at the end.
+    /// How many vertices are at a level at the end: two of each pair there, and at
+    /// -1 all that are in none.
+    fn standing(&self, level: i32) -> u32 {
+        let paired = 2 * self.pairs.iter().filter(|pair| pair.2 == level).count();
+        match level {
+            -1 => (self.n - 2 * self.pairs.len()) as u32,
+            _ => paired as u32,
+        }
+    }
+
+    /// Asks for every level, mate, link and roster at the end.
     fn ask(&self, rack: &[u8]) -> Verdict {
         same("the audit", both::audit(rack)?, (0, true))?;
         for v in 0..self.n {
@@ -151,7 +162,8 @@ impl Case {
                 both::linked(rack, v as u32, w as u32)?;
             }
         }
-        Ok(())
+        let stated = LEVELS.map(|level| (0, self.standing(level)));
+        same("the rosters stated", both::rosters(rack, LEVELS)?, stated)
     }
 }
 
@@ -179,8 +191,8 @@ pub fn changes() -> Verdict {
     same("P11, change", answer, Answer::refused(6))
 }
 
-/// The levels, mates and links after P1 to P10, and the audit and queries of
-/// P11.
+/// The levels, mates, links and rosters after P1 to P10, and the audit and
+/// queries of P11.
 pub fn queries() -> Verdict {
     for case in &CASES {
         let rack = case.play()?.rack.to_bytes();
@@ -194,5 +206,6 @@ pub fn queries() -> Verdict {
         same("P11, mate", both::mate(&rack, v)?, (6, 0))?;
         same("P11, link", both::linked(&rack, v, 1)?, (6, 0))?;
     }
-    Ok(())
+    let wanted = LEVELS.map(|_| (6, 0));
+    same("P11, rosters", both::rosters(&rack, LEVELS)?, wanted)
 }

@@ -6,7 +6,7 @@ use crate::cases;
 use crate::change_tally::{fitting, Tally};
 use crate::damage::{damaged, Damage, DAMAGES};
 use crate::fans::{fan, FANS};
-use crate::rack_part::{noise, WRONG_LENGTHS};
+use crate::rack_part::wrong_buffers;
 use crate::racks::{self, Kind};
 use crate::Verdict;
 use reference::checks::random::Random;
@@ -129,6 +129,9 @@ fn step(twin: &mut Twin, asked: &Asked, tally: &mut Tally) -> Result<Answer, Str
         fit.first().copied().unwrap_or(0),
     )?;
     tally.note_on(&before, asked, &fit, &answer, &twin.rack);
+    if answer.number == 0 {
+        tally.rosters.ask_on(&twin.bytes, &twin.rack)?;
+    }
     Ok(answer)
 }
 
@@ -140,6 +143,7 @@ fn walk(
     adds: usize,
     tally: &mut Tally,
 ) -> Verdict {
+    tally.rosters.ask_on(&twin.bytes, &twin.rack)?;
     for place in 0..changes {
         let asked = Asked::any(random, &twin.rack, adds);
         step(twin, &asked, tally).map_err(|why| format!("change {place}: {why}"))?;
@@ -212,6 +216,7 @@ fn on_damaged(name: &str, damage: Damage) -> Result<Tally, String> {
         let bytes = damaged(&mut random, &rack, damage);
         let told = |why| format!("damage to {name}, seed {seed:#x}, {n} boards: {why}");
         tally.note(&both::change(&bytes, &asked).map_err(told)?);
+        tally.rosters.ask(&bytes).map_err(told)?;
     }
     Ok(tally)
 }
@@ -225,9 +230,10 @@ fn all_sorts() -> Result<Tally, String> {
     let mut damaged = sound.clone();
     damaged[7] ^= 1;
     let mut buffers = vec![sound, damaged];
-    buffers.extend(WRONG_LENGTHS.map(|length| noise(length, 3)));
+    buffers.extend(wrong_buffers());
     let mut tally = Tally::new();
     for buffer in &buffers {
+        tally.rosters.ask(buffer)?;
         for code in [0, 1, 2, 3, 256, 257, u32::MAX] {
             for a in ENDS {
                 for b in ENDS {

@@ -2,6 +2,7 @@
 //! and how many of them the order decides.
 
 use crate::asked::Asked;
+use crate::rosters::Rosters;
 use crate::tally::Seen;
 use crate::Verdict;
 use reference::checks::rival::order_decides;
@@ -23,6 +24,12 @@ pub struct Tally {
     draws: u64,
     pub most_draws: u32,
     pub most_falls: u32,
+    /// Vertices that an accepted change put into another roster, by their levels
+    /// before and after it.
+    moved: Seen<(i32, i32)>,
+    /// The rosters asked for on the racks before and after changes, on damaged ones
+    /// and on buffers of a wrong length.
+    pub rosters: Rosters,
 }
 
 impl Tally {
@@ -40,6 +47,8 @@ impl Tally {
             draws: 0,
             most_draws: 0,
             most_falls: 0,
+            moved: Seen::of("levels", (-1..=3).flat_map(to_others)),
+            rosters: Rosters::of(&[0, 1, 6], 16),
         }
     }
 
@@ -73,6 +82,10 @@ impl Tally {
                 .note(after.level.iter().copied().max().unwrap_or(-1));
             let decided = order_decides(before, (*code, *a, *b), words, answer, after);
             self.decided.note(decided);
+            let levels = before.level.iter().zip(&after.level);
+            for (&from, &to) in levels.filter(|(from, to)| from != to) {
+                self.moved.note((from, to));
+            }
         }
     }
 
@@ -87,6 +100,8 @@ impl Tally {
         self.draws += part.draws;
         self.most_draws = self.most_draws.max(part.most_draws);
         self.most_falls = self.most_falls.max(part.most_falls);
+        self.moved.add(&part.moved);
+        self.rosters.add(&part.rosters);
     }
 
     fn print(&self, what: &str) {
@@ -122,12 +137,25 @@ impl Tally {
             self.decided.times(true),
             self.decided.sum()
         );
+        println!(
+            "{} boards put into another roster, by {}",
+            self.moved.sum(),
+            self.moved
+        );
         self.numbers.all_came()?;
         self.at_once.all_came()?;
         self.codes.all_came()?;
         self.decided.all_came()?;
-        self.tops.all_came()
+        self.tops.all_came()?;
+        self.moved.all_came()?;
+        self.rosters.all_came()
     }
+}
+
+/// A level with each other one.
+fn to_others(from: i32) -> impl Iterator<Item = (i32, i32)> {
+    let levels = (-1..=3).filter(move |&to| to != from);
+    levels.map(move |to| (from, to))
 }
 
 /// The numbers from 7 on that fit a change of a sound rack, each looked at by

@@ -1,8 +1,13 @@
 //! Damage to the bytes of a rack, field by field, and such that only one thing
 //! is amiss.
 
+// With its path, so that the tests of the tuned program find it too.
+#[path = "roster_damage.rs"]
+pub mod roster_damage;
+
 use reference::checks::random::Random;
 use reference::Rack;
+use roster_damage::Kind;
 
 /// What is damaged: a field of the bytes, or the rack that they tell of.
 #[derive(Clone, Copy, Debug, PartialEq, Eq)]
@@ -17,9 +22,10 @@ pub enum Damage {
     Sly,
     Owner,
     Model,
+    Rosters(Kind),
 }
 
-pub const DAMAGES: [(&str, Damage); 10] = [
+pub const DAMAGES: [(&str, Damage); 17] = [
     ("header", Damage::Header),
     ("spare bytes", Damage::Spare),
     ("levels", Damage::Ranks),
@@ -29,7 +35,23 @@ pub const DAMAGES: [(&str, Damage); 10] = [
     ("entries past n", Damage::Past),
     ("two fields that agree", Damage::Sly),
     ("an owner, counted from its level", Damage::Owner),
-    ("levels, mates, owners with right counts", Damage::Model),
+    (
+        "levels, mates, owners with right counts and rosters",
+        Damage::Model,
+    ),
+    ("bytes of rosters", Damage::Rosters(Kind::Byte)),
+    ("rosters: a board moved", Damage::Rosters(Kind::Moved)),
+    ("rosters: a board in two", Damage::Rosters(Kind::Twice)),
+    ("rosters: a board in none", Damage::Rosters(Kind::Missing)),
+    (
+        "rosters: two boards for each other",
+        Damage::Rosters(Kind::Exchanged),
+    ),
+    ("rosters: a bit from n on", Damage::Rosters(Kind::Past)),
+    (
+        "rosters: those before a change",
+        Damage::Rosters(Kind::Stale),
+    ),
 ];
 
 /// The bytes of a rack with damage of one kind. At times the damage comes to
@@ -47,6 +69,7 @@ pub fn damaged(random: &mut Random, rack: &Rack, damage: Damage) -> Vec<u8> {
         Damage::Sly if random.percent(15) => high_ranks(random, &mut bytes, rack),
         Damage::Sly => sly(random, &mut bytes, rack),
         Damage::Owner => lower_owner(random, &mut bytes, rack),
+        Damage::Rosters(kind) => roster_damage::damage(random, &mut bytes, rack, kind),
         _ => {
             let at = field(random, rack.n, damage);
             damage_byte(random, &mut bytes[at]);
@@ -80,11 +103,12 @@ fn past(random: &mut Random, n: usize) -> usize {
     } else {
         random.between(n, 255)
     };
-    match random.below(5) {
+    match random.below(6) {
         0 => 8 + v,
         1 => 264 + 2 * v + random.below(2),
         2 => 776 + 4 * v + random.below(4),
         3 => 1_800 + 32 * v + random.below(32),
+        4 => 9_992 + 32 * random.below(5) + v / 8,
         _ => 1_800 + 32 * random.below(n) + v / 8,
     }
 }
@@ -100,7 +124,8 @@ fn damage_byte(random: &mut Random, byte: &mut u8) {
     };
 }
 
-/// Damage after which the edge number and the counts are still right.
+/// Damage after which the edge number, the counts and the rosters are still
+/// right.
 fn damage_model(random: &mut Random, rack: &mut Rack) {
     let (v, w) = (random.below(rack.n), random.below(rack.n));
     match random.below(7) {

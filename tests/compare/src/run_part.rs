@@ -47,7 +47,9 @@ fn of_family(stage: &Stage, family: &Family, tally: &mut Tally) -> Verdict {
             .run(&case)
             .map_err(|why| format!("case {place}: {why}"))?;
         numbers[ran.outcome.number as usize] += 1;
-        tally.note(&case, &ran);
+        tally
+            .note(&case, &ran)
+            .map_err(|why| format!("case {place}: {why}"))?;
     }
     let told: Vec<String> = (0..6)
         .filter(|&number| numbers[number] > 0)

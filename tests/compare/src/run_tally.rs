@@ -1,6 +1,7 @@
 //! What the runs came to: the numbers, the lines of the records, the levels
 //! reached, and the words of the texts.
 
+use crate::rosters::Rosters;
 use crate::runs::Ran;
 use crate::tally::Seen;
 use crate::texts::Case;
@@ -32,6 +33,9 @@ pub struct Tally {
     /// The most draws, falls and pairs of a change.
     most: [u32; 3],
     longest: usize,
+    /// The rosters asked for after runs with 0. If no rack was set, they're those of
+    /// bytes without meaning.
+    rosters: Rosters,
 }
 
 impl Default for Tally {
@@ -51,16 +55,19 @@ impl Default for Tally {
             digits: Seen::of("words by their digits", 1..=10),
             most: [0; 3],
             longest: 0,
+            rosters: Rosters::of(&[0, 6], 16),
         }
     }
 }
 
 impl Tally {
-    pub fn note(&mut self, case: &Case, ran: &Ran) {
+    pub fn note(&mut self, case: &Case, ran: &Ran) -> Verdict {
         self.numbers.note(ran.outcome.number);
         if ran.outcome.number != 0 {
-            return self.note_numbers(case);
+            self.note_numbers(case);
+            return Ok(());
         }
+        self.rosters.ask(&ran.rack)?;
         self.longest = self.longest.max(ran.outcome.length);
         // Of most texts it isn't known.
         if case.top >= 0 {
@@ -70,6 +77,7 @@ impl Tally {
             self.note_line(line);
         }
         self.note_text(&case.text);
+        Ok(())
     }
 
     fn note_numbers(&mut self, case: &Case) {
@@ -145,6 +153,7 @@ impl Tally {
         self.means.all_came().map_err(of_means)?;
         self.words.all_came()?;
         self.digits.all_came()?;
+        self.rosters.all_came()?;
         if self.blank == 0 {
             return Err("never met: a text of no bytes that was run".into());
         }

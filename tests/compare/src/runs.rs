@@ -21,6 +21,7 @@ pub struct Stage {
 /// A run that is the same on both sides.
 pub struct Ran {
     pub outcome: Outcome,
+    pub rack: Vec<u8>,
     pub record: Vec<u8>,
 }
 
@@ -51,6 +52,7 @@ impl Stage {
         space.truncate(outcome.length);
         Ok(Ran {
             outcome,
+            rack,
             record: space,
         })
     }

@@ -117,6 +117,20 @@ pub fn linked(rack: &[u8], v: u32, w: u32) -> (u32, u32) {
     }
 }
 
+/// "a query returns the number of boards at a level, 0 for a level outside -1 to
+/// 3; it meets 1 and 6" (document 02, W-205)
+pub fn roster(rack: &[u8], level: i32) -> (u32, u32) {
+    rosters(rack, [level])[0]
+}
+
+/// The same query for several levels of one rack, which is looked at once.
+pub fn rosters<const N: usize>(rack: &[u8], levels: [i32; N]) -> [(u32, u32); N] {
+    match open(rack) {
+        Ok(rack) => levels.map(|level| (0, rack.standing(level) as u32)),
+        Err(number) => levels.map(|_| (number, 0)),
+    }
+}
+
 /// One change on a rack buffer: "1 and 6 to 12".
 pub fn change(rack: &mut [u8], code: u32, a: u32, b: u32, words: &[u32]) -> Answer {
     change_with_pairs(rack, code, a, b, words).0

@@ -1,11 +1,12 @@
-//! The rack bytes: "Exactly 9,992 bytes, offsets decimal, numbers low byte
-//! first."
+//! The rack bytes: "offsets decimal, numbers low byte first." Of document 01
+//! they are 9,992; "The rack gains at offset 9,992 five rosters of 32 bytes, for
+//! levels -1 to 3" (document 02, W-205).
 
-use crate::rack::Rack;
+use crate::rack::{Rack, HIGHEST, LOWEST};
 use crate::sound::sound;
 
-/// The length of a rack buffer.
-pub const RACK_BYTES: usize = 9_992;
+/// The length of a rack buffer: "Its length becomes 10,152" (W-205).
+pub const RACK_BYTES: usize = 10_152;
 
 /// The places for boards in the bytes, used or not.
 pub const PLACES: usize = 256;
@@ -19,6 +20,7 @@ const LEVELS_AT: usize = 8;
 const MATES_AT: usize = 264;
 const COUNTS_AT: usize = 776;
 const ROWS_AT: usize = 1_800;
+const ROSTERS_AT: usize = 9_992;
 
 fn two_bytes(bytes: &[u8], at: usize) -> u32 {
     u32::from(bytes[at]) + 256 * u32::from(bytes[at + 1])
@@ -68,13 +70,29 @@ pub fn row(bytes: &[u8], v: usize) -> &[u8] {
 /// "Bit w mod 8 (bit 0 lowest) of byte w div 8 in row v is set if v owns the
 /// link v-w."
 pub fn owns(bytes: &[u8], v: usize, w: usize) -> bool {
-    let byte = row(bytes, v)[w / 8];
-    (byte >> (w % 8)) % 2 == 1
+    has_bit(row(bytes, v), w)
+}
+
+/// "five rosters of 32 bytes, for levels -1 to 3" (document 02, W-205); this is
+/// where that of a level starts.
+fn roster_at(level: i32) -> usize {
+    ROSTERS_AT + 32 * (level - LOWEST) as usize
+}
+
+/// Whether v is in the roster of a level, "with a board's bit laid out as in a
+/// row" (W-205).
+pub fn in_roster(bytes: &[u8], level: i32, v: usize) -> bool {
+    has_bit(&bytes[roster_at(level)..roster_at(level) + 32], v)
+}
+
+/// Bit w of a row or a roster.
+fn has_bit(field: &[u8], w: usize) -> bool {
+    (field[w / 8] >> (w % 8)) % 2 == 1
 }
 
 impl Rack {
-    /// The 9,992 bytes of this rack, with the link number and all counts
-    /// worked out from their definitions.
+    /// The 10,152 bytes of this rack, with the link number, all counts and the
+    /// rosters worked out from their definitions.
     pub fn to_bytes(&self) -> Vec<u8> {
         let mut bytes = vec![0; RACK_BYTES];
         put_two_bytes(&mut bytes, BOARDS_AT, self.n);
@@ -101,6 +119,13 @@ impl Rack {
         for w in 0..self.n {
             if self.owner[v][w] {
                 bytes[ROWS_AT + 32 * v + w / 8] += 1 << (w % 8);
+            }
+        }
+        // "each board below n is in the roster of its level and in none besides,
+        // with the other bits clear" (W-205)
+        for level in LOWEST..=HIGHEST {
+            if self.level[v] == level {
+                bytes[roster_at(level) + v / 8] += 1 << (v % 8);
             }
         }
     }

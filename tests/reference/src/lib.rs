@@ -17,6 +17,7 @@ pub mod sound;
 pub mod trace;
 
 pub use calls::{audit, change, change_with_pairs, level, linked, make, mate, Answer};
+pub use calls::{roster, rosters};
 pub use image::{IDLE, RACK_BYTES};
 pub use rack::Rack;
 pub use sound::sound;

@@ -69,6 +69,12 @@ impl Rack {
         }
     }
 
+    /// "the number of boards at a level, 0 for a level outside -1 to 3" (document
+    /// 02, W-205), where no board stands.
+    pub fn standing(&self, level: i32) -> usize {
+        (0..self.n).filter(|&v| self.level[v] == level).count()
+    }
+
     /// "each count at j is below 4^j" fails for this board and level: the
     /// count reaches the threshold.
     pub fn reaches(&self, v: usize, j: i32) -> bool {

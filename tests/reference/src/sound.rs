@@ -1,11 +1,12 @@
-//! "A rack is sound if" - the conditions of the paper one by one, in its order,
-//! looked at in the bytes themselves.
+//! "A rack is sound if" - the conditions of document 01 one by one, in its order,
+//! looked at in the bytes themselves. That of document 02 stands after the one on
+//! level bytes.
 
 use crate::image::{
-    boards, counts, level_byte, link_number, mate_number, owns, row, spare, IDLE, PLACES,
-    RACK_BYTES,
+    boards, counts, in_roster, level_byte, link_number, mate_number, owns, row, spare, IDLE,
+    PLACES, RACK_BYTES,
 };
-use crate::rack::threshold;
+use crate::rack::{threshold, HIGHEST, LOWEST};
 
 /// Whether these bytes are a sound rack. Any bytes may be asked about; a
 /// condition is looked at only when all the ones before it hold.
@@ -15,6 +16,7 @@ pub fn sound(bytes: &[u8]) -> bool {
         && entries_past_the_boards_are_empty(bytes)
         && board_number_is_right(bytes)
         && level_bytes_are_right(bytes)
+        && rosters_are_right(bytes)
         && no_row_names_its_own_board(bytes)
         && no_link_has_both_bits(bytes)
         && link_number_is_right(bytes)
@@ -51,6 +53,16 @@ fn board_number_is_right(bytes: &[u8]) -> bool {
 /// "level bytes are 0 to 4"
 fn level_bytes_are_right(bytes: &[u8]) -> bool {
     (0..boards(bytes)).all(|v| level_byte(bytes, v) <= 4)
+}
+
+/// "each board below n is in the roster of its level and in none besides, with
+/// the other bits clear" (document 02, W-205)
+fn rosters_are_right(bytes: &[u8]) -> bool {
+    let n = boards(bytes);
+    (0..PLACES).all(|v| {
+        let stands_at = |i| v < n && level(bytes, v) == i;
+        (LOWEST..=HIGHEST).all(|i| in_roster(bytes, i, v) == stands_at(i))
+    })
 }
 
 /// "no row names its own board"

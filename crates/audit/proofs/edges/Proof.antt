@@ -20,7 +20,7 @@ slice-aggregate-all c = refl
 all-requires : tie.Need-all-requires
 all-requires c κs =
     let s = c .before .before in
-    (s .pre .0, (s .pre .1, zeros-hold low (s .args .rack .now) _ refl))
+    (s .pre .0, (s .pre .1 .0, (s .pre .1 .1, zeros-hold low (s .args .rack .now) _ refl)))
 
 returns : tie.Need-returns
 returns c = says-no (λ g. unsaid (c .before .before .all .ensures .0) (not-true _ (c .if1 .taken)) (g .rows))
@@ -37,7 +37,7 @@ slice-aggregate-counts c = sym (held (c .before) .long)
 counts-requires : tie.Need-counts-requires
 counts-requires c κs =
     let s = c .before .before .before .before .before .before in
-    (s .pre .0, (s .pre .1, held (c .before) .long))
+    (s .pre .0, (s .pre .1 .0, held (c .before) .long))
 
 returns-2 : tie.Need-returns-2
 returns-2 c =
@@ -46,7 +46,7 @@ returns-2 c =
     let t = e .before .before .all .last .1 .0 in
     let f = tallied low (s .args .rack .now) (s .args .n) in
     let sums : (v : ℕ) → v < s .args .n → (j : ℕ) → j ≤ base .top → upTo low t v (suc j) ≡ sum (f v) (suc j) =
-    λ v h j k. upTo-holds low t f v (suc j) (held e) (omega (arith, s .pre .1)) (omega (arith, low-full)) in
+    λ v h j k. upTo-holds low t f v (suc j) (held e) (omega (arith, s .pre .1 .0)) (omega (arith, low-full)) in
     says-by
     (λ g. record {
       rows = said (e .before .before .all .ensures .0) (not-false _ (e .if1 .left));

@@ -2,7 +2,7 @@
 -- Assumes nothing.
 use mathlib.Core.Path.{sym, ap, _∙_, subst}
 use mathlib.Core.Bool.{false}
-use Prim.Native.Nat.{ℕ}
+use Prim.Native.Nat.{_≤_}
 use native.Mathlib.Omega.{arith}
 use borrow.Author.Tests.{not-true, not-false}
 use Rattle.model.specs.Counting.{sum}
@@ -10,8 +10,9 @@ use Rattle.model.specs.Shape.{low}
 use Rattle.model.proofs.Shapes.{low-good, low-full}
 use Rattle.layout.specs.Rows.{degreeAt}
 use Rattle.layout.proofs.Said.{said, unsaid, says-no, says-by}
-use Rattle.audit.specs.Parts.{Edges}
-use Rattle.audit.proofs.Whole.{answer, whole, facts-edges, facts-degrees, facts-mates}
+use Rattle.audit.specs.Parts.{Edges, Rosters}
+use Rattle.audit.proofs.Enrolled.{enrolled-rank}
+use Rattle.audit.proofs.Whole.{answer, whole, facts-rosters, facts-edges, facts-degrees, facts-mates}
 use borrow.Author.Needs.{needs}
 use Rattle.audit.proofs.sound.Statement.{statement}
 use Rattle.audit.proofs.sound.Tie as tie
@@ -44,17 +45,39 @@ returns-4 : tie.Need-returns-4
 returns-4 c =
     let n = c .before .before .before .before .before .before in
     let bs = n .before .before .args .rack .now in
-    answer low false bs (says-no (λ f. unsaid (c .before .unused-from .ensures) (not-true _ (c .if4 .taken)) (λ v h l. f .unused v h (omega (arith, n .size .ensures)))))
+    answer low false bs (says-no (λ f. unsaid (c .before .unused-from .ensures) (not-true _ (c .if4 .taken))
+    (λ v h l. f .unused v h (omega (arith, n .size .ensures)))))
 
-edges-requires : tie.Need-edges-requires
-edges-requires c κs = search needs
+all-requires : tie.Need-all-requires
+all-requires c κs = search needs
 
 returns-5 : tie.Need-returns-5
 returns-5 c =
     let n = c .before .before .before .before .before .before .before .before in
     let bs = n .before .before .args .rack .now in
     answer low false bs
-    (says-no (λ f. unsaid (c .before .edges .ensures) (not-true _ (c .if5 .taken)) (subst (λ (k : ℕ). Edges low bs k) (sym (n .size .ensures)) (facts-edges low low-good low-full bs f))))
+    (says-no (λ f. unsaid (c .before .all .ensures) (not-true _ (c .if5 .taken))
+    (subst (Rosters low bs) (sym (n .size .ensures)) (facts-rosters low low-good low-full bs f))))
+
+-- the rosters are right once they are tested
+rosters : (c : tie.Else5) →
+    let n = c .before .before .before .before .before .before .before .before in
+    Rosters low (n .before .before .args .rack .now) (n .size .result)
+rosters c = said (c .before .all .ensures) (not-false _ (c .if5 .left))
+
+edges-requires : tie.Need-edges-requires
+edges-requires c κs =
+    let two = c .before .before .before .before .before .before in
+    let few : two .before .before .size .result ≤ low .most = omega (arith, two .if2 .left) in
+    (two .before .before .before .before .pre, (few, λ v h. omega (arith, low-full, enrolled-rank few (rosters c) v h)))
+
+returns-6 : tie.Need-returns-6
+returns-6 c =
+    let n = c .before .before .before .before .before .before .before .before .before .before in
+    let bs = n .before .before .args .rack .now in
+    answer low false bs
+    (says-no (λ f. unsaid (c .before .edges .ensures) (not-true _ (c .if6 .taken))
+    (subst (Edges low bs) (sym (n .size .ensures)) (facts-edges low low-good low-full bs f))))
 
 degrees-requires : tie.Need-degrees-requires
 degrees-requires c κs = search needs
@@ -62,25 +85,27 @@ degrees-requires c κs = search needs
 edges-requires-2 : tie.Need-edges-requires-2
 edges-requires-2 c κs = search needs
 
-cast-if6 : tie.Need-cast-if6
-cast-if6 c = search needs
+cast-if7 : tie.Need-cast-if7
+cast-if7 c = search needs
 
-returns-6 : tie.Need-returns-6
-returns-6 c =
-    let n = c .before .before .before .before .before .before .before .before .before .before .before in
+returns-7 : tie.Need-returns-7
+returns-7 c =
+    let n = c .before .before .before .before .before .before .before .before .before .before .before .before .before in
     let bs = n .before .before .args .rack .now in
     answer low false bs
-    (says-no (λ f. c .if6 .taken
-    (c .before .before .degrees .ensures ∙ ap (sum (degreeAt low bs)) (n .size .ensures) ∙ facts-degrees low low-good low-full bs f ∙ sym (c .before .edges2 .ensures))))
+    (says-no (λ f. c .if7 .taken
+    (c .before .before .degrees .ensures ∙ ap (sum (degreeAt low bs)) (n .size .ensures)
+    ∙ facts-degrees low low-good low-full bs f ∙ sym (c .before .edges2 .ensures))))
 
 mates-requires : tie.Need-mates-requires
 mates-requires c κs = search needs
 
-returns-7 : tie.Need-returns-7
-returns-7 c =
+returns-8 : tie.Need-returns-8
+returns-8 c =
     let total = c .before in
     let edges = total .before .before .before in
-    let unused = edges .before .before in
+    let rosters-right = edges .before .before in
+    let unused = rosters-right .before .before in
     let spare = unused .before .before in
     let n = spare .before .before .before .before in
     let bs = n .before .before .args .rack .now in
@@ -92,8 +117,9 @@ returns-7 c =
     (omega (arith, e, spare .before .before .if2 .left))
     (said (spare .before .spare-zero .ensures) (not-false _ (spare .if3 .left)))
     (λ v h l. said (unused .before .unused-from .ensures) (not-false _ (unused .if4 .left)) v h (omega (arith, e)))
-    (subst (λ (k : ℕ). Edges low bs k) e (said (edges .before .edges .ensures) (not-false _ (edges .if5 .left))))
-    (sym (total .before .edges2 .ensures) ∙ sym (total .if6 .left) ∙ total .before .before .degrees .ensures ∙ ap (sum (degreeAt low bs)) e)
+    (subst (Rosters low bs) e (rosters rosters-right))
+    (subst (Edges low bs) e (said (edges .before .edges .ensures) (not-false _ (edges .if6 .left))))
+    (sym (total .before .edges2 .ensures) ∙ sym (total .if7 .left) ∙ total .before .before .degrees .ensures ∙ ap (sum (degreeAt low bs)) e)
     (λ v h. m v (omega (arith, e))))
     (λ f v h. facts-mates low low-good low-full bs f v (omega (arith, e)))
     (c .mates .ensures))
@@ -109,11 +135,13 @@ sound-spec =
     returns-3
     unused-from-requires
     returns-4
-    edges-requires
+    all-requires
     returns-5
+    edges-requires
+    returns-6
     degrees-requires
     edges-requires-2
-    cast-if6
-    returns-6
+    cast-if7
+    returns-7
     mates-requires
-    returns-7)
+    returns-8)

@@ -1,17 +1,18 @@
 -- `moves::enter` meets its contract: the lowered counts, u's own counts and its rank are those of the state with u at rank i + 1. Assumes
 -- nothing.
-use mathlib.Core.Path.{ap, _∙_}
+use mathlib.Core.Path.{_≡_, ap, _∙_}
 use mathlib.Core.List.{List}
-use Prim.Native.Nat.{ℕ, _+_}
+use Prim.Native.Nat.{ℕ, suc, _+_}
 use native.Mathlib.Omega.{arith}
 use borrow.Author.Needs.{needs}
 use Rattle.model.specs.Shape.{low}
-use Rattle.model.specs.State.{base}
-use Rattle.model.specs.Bytes.{read}
+use Rattle.model.specs.State.{base, phi}
+use Rattle.model.specs.Bytes.{image, fieldsOf, read}
 use Rattle.layout.specs.Setters.{setRank}
-use Rattle.moves.specs.Counts.{recounted, none}
+use Rattle.moves.specs.Proper.{ranked}
+use Rattle.moves.specs.Counts.{withCounts, recounted, none}
 use Rattle.moves.proofs.Held.{held-sized, held-small}
-use Rattle.moves.proofs.RankSteps.{enter-bytes}
+use Rattle.moves.proofs.RankSteps.{rank-listed, enter-counts, enter-bytes}
 use Rattle.moves.proofs.enter.Statement.{statement}
 use Rattle.moves.proofs.enter.Tie as tie
 
@@ -37,12 +38,34 @@ cast-set-rank : tie.Need-cast-set-rank
 unfolding base
 cast-set-rank c = omega arith
 
+-- the counts before the new rank is set
+counted : (c : tie.After-zero-counts) →
+    let lowered = c .before .before .before .before in
+    let s = lowered .before .before .before in
+    let a = s .args in
+    c .zero-counts .last .0 ≡ image (withCounts (fieldsOf (read low (a .rack .now))) (phi (ranked (a .u) (suc (a .i)) (read low (a .rack .now)))))
+counted c =
+    let lowered = c .before .before .before .before in
+    let s = lowered .before .before .before in
+    let a = s .args in
+    let p = s .pre in
+    c .zero-counts .ensures ∙ ap (λ (bs : List ℕ). recounted low none bs (a .u) 0 (a .i + 1)) (lowered .lower-counts .ensures)
+    ∙ enter-counts (read low (a .rack .now)) (p .0 .proper) (a .i) (a .u) (p .1 .0 .0) (p .1 .0 .2) (p .1 .1) (p .1 .0 .1)
+
 set-rank-requires : tie.Need-set-rank-requires
+unfolding base
 set-rank-requires c κs =
     let zeroed = c .before .before .before in
     let lowered = zeroed .before .before .before .before in
-    let p = lowered .before .before .before .pre in
-    (omega (arith, zeroed .zero-counts .kept .0, lowered .lower-counts .kept .0, held-sized (p .0)), held-small (p .0) _ (p .1 .0 .0))
+    let s = lowered .before .before .before in
+    let p = s .pre in (
+      omega (arith, zeroed .zero-counts .kept .0, lowered .lower-counts .kept .0, held-sized (p .0)),
+      (
+        held-small (p .0) _ (p .1 .0 .0),
+        rank-listed (read low (s .args .rack .now)) (p .0 .proper) _ (s .args .u) (p .1 .0 .0) (zeroed .zero-counts .last .0) (counted zeroed),
+        omega (arith, p .1 .0 .2),
+      ),
+    )
 
 same-length : tie.Need-same-length
 same-length c = search needs
@@ -53,7 +76,7 @@ returns c =
     let lowered = zeroed .before .before .before .before in
     let a = lowered .before .before .before .args in
     let p = lowered .before .before .before .pre in
-    let last : List ℕ → List ℕ = λ bs. setRank bs (a .u) (a .i + 1) in
+    let last : List ℕ → List ℕ = λ bs. setRank low bs (a .u) (a .i + 1) in
     c .before .before .set-rank .ensures
     ∙ ap last (zeroed .zero-counts .ensures ∙ ap (λ (bs : List ℕ). recounted low none bs (a .u) 0 (a .i + 1)) (lowered .lower-counts .ensures))
     ∙ enter-bytes (read low (a .rack .now)) (p .0 .proper) (a .i) (a .u) (p .1 .0 .0) (p .1 .0 .2) (p .1 .1) (p .1 .0 .1)

@@ -24,12 +24,12 @@ enter-requires c κs =
     let s = read low (a .rack .now) in
     let t = tookOver (a .i) (a .u) s in
     let bs = took .take-over .last .0 in
-    let q = took-proper s (p .0 .proper) (a .i) (a .u) (p .1 .0 .0) in
+    let q = took-proper s (p .0 .0 .proper) (a .i) (a .u) (p .1 .0 .0) in
     let r : t ≡ read low bs = sym (reads-as bs t (took .take-over .ensures) q) in (
       held-of bs t (took .take-over .ensures) q,
       (
         subst (λ (x : State). (a .u < x .n) × (x .rank (a .u) ≤ a .i) × (a .i ≤ base .top)) r (p .1 .0),
-        subst (λ (x : State). RowBelow (a .i) (a .u) x) r (took-row s (p .0 .proper) (a .i) (a .u) (p .1 .1)),
+        subst (λ (x : State). RowBelow (a .i) (a .u) x) r (took-row s (p .0 .0 .proper) (a .i) (a .u) (p .1 .1)),
       ),
     )
 
@@ -43,10 +43,10 @@ returns c =
     let p = took .before .before .before .pre in
     let s = read low (a .rack .now) in
     let t = tookOver (a .i) (a .u) s in
-    let q = took-proper s (p .0 .proper) (a .i) (a .u) (p .1 .0 .0) in
+    let q = took-proper s (p .0 .0 .proper) (a .i) (a .u) (p .1 .0 .0) in
     let r : read low (took .take-over .last .0) ≡ t = reads-as _ t (took .take-over .ensures) q in
     c .before .before .enter .ensures ∙ ap (λ (x : State). write (ranked (a .u) (suc (a .i)) x)) r
-    ∙ ap write (rise-halves s (p .0 .proper) (a .i) (a .u))
+    ∙ ap write (rise-halves s (p .0 .0 .proper) (a .i) (a .u))
 
 pub rise-spec : {M : Type 1} → statement M
 rise-spec = tie.close (tie.spec take-over-requires enter-requires same-length returns)

@@ -6,7 +6,10 @@ use super::trace::rack_line;
 use super::{Case, Family};
 use reference::{RACK_BYTES, RECORD_SPACE, TEXT_LIMIT};
 
-const RACKS: [usize; 9] = [RACK_BYTES, 0, 1, 264, 9_991, 9_993, 10_152, 19_984, 65_536];
+/// The length of a rack, and others: among them the one before the rosters.
+const RACKS: [usize; 12] = [
+    RACK_BYTES, 0, 1, 264, 9_991, 9_992, 9_993, 10_151, 10_153, 10_312, 20_304, 65_536,
+];
 const SPACES: [usize; 9] = [
     RECORD_SPACE,
     0,

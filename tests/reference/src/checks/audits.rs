@@ -4,7 +4,7 @@
 use super::makers::sound_rack;
 use super::random::Random;
 use super::{came, holds, same, shape, Tally, Verdict};
-use crate::{audit, change, level, linked, mate, Answer, Rack, RACK_BYTES};
+use crate::{audit, change, level, linked, mate, roster, Answer, Rack, RACK_BYTES};
 
 const SEEDS: u64 = 40_000;
 
@@ -47,6 +47,7 @@ fn agreed(bytes: &[u8]) -> Result<bool, String> {
         same("level", level(bytes, 900), (6, 0))?;
         same("mate", mate(bytes, 900), (6, 0))?;
         same("linked", linked(bytes, 0, 0), (6, 0))?;
+        same("roster", roster(bytes, -1), (6, 0))?;
     }
     Ok(yes)
 }
@@ -119,7 +120,7 @@ fn owners_by_level(rack: &mut Rack) {
 fn damage_bytes(random: &mut Random, bytes: &mut [u8], n: usize) {
     let v = random.below((n + 2).min(256));
     let w = random.below((n + 2).min(256));
-    match random.below(10) {
+    match random.below(12) {
         0 => bytes[random.below(8)] ^= 1 << random.below(8),
         1 => bytes[0] = random.between(n.max(2) - 1, n + 1) as u8,
         2 => bytes[2] = bytes[2].wrapping_add(random.pick(&[1, 255])),
@@ -144,6 +145,14 @@ fn damage_bytes(random: &mut Random, bytes: &mut [u8], n: usize) {
             // Both bits of one link, or a row that names its own board.
             bytes[1800 + 32 * v + w / 8] |= 1 << (w % 8);
             bytes[1800 + 32 * w + v / 8] |= 1 << (v % 8);
+        }
+        9 => bytes[9_992 + 32 * random.below(5) + v / 8] ^= 1 << (v % 8),
+        10 => {
+            // A board goes to another roster, or to its own.
+            for of_level in bytes[9_992..].chunks_mut(32) {
+                of_level[v / 8] &= !(1 << (v % 8));
+            }
+            bytes[9_992 + 32 * random.below(5) + v / 8] |= 1 << (v % 8);
         }
         _ => bytes[random.below(RACK_BYTES)] = random.bits() as u8,
     }

@@ -58,7 +58,7 @@ impl Book {
 /// the bits that are set.
 pub fn links_in(rack: &[u8]) -> BTreeSet<(u32, u32)> {
     let mut links = BTreeSet::new();
-    let bytes = rack[1800..].iter().enumerate();
+    let bytes = rack[1800..9_992].iter().enumerate();
     for (at, byte) in bytes.filter(|(_, byte)| **byte != 0) {
         for bit in 0..8 {
             if byte & (1 << bit) != 0 {

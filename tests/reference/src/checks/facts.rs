@@ -4,7 +4,7 @@
 use super::book::{links_in, Book};
 use super::exact::{largest_pairing, smallest_cover, MOST_BOARDS};
 use super::{holds, same};
-use crate::Answer;
+use crate::{rosters, Answer};
 
 fn level(rack: &[u8], v: u32) -> i32 {
     i32::from(rack[8 + v as usize]) - 1
@@ -36,7 +36,18 @@ pub fn of_rack(rack: &[u8], book: &Book) -> Result<(), String> {
     mates(rack, book)?;
     counts(rack, book)?;
     if book.n <= MOST_BOARDS {
+        standing(rack, book)?;
         bounds(rack, book)?;
+    }
+    Ok(())
+}
+
+/// The query for a level's boards counts those whose level byte tells of it.
+fn standing(rack: &[u8], book: &Book) -> Result<(), String> {
+    let levels = [-3, -2, -1, 0, 1, 2, 3, 4, 5];
+    for (i, came) in levels.into_iter().zip(rosters(rack, levels)) {
+        let boards = (0..book.n).filter(|&v| level(rack, v) == i).count();
+        same(&format!("boards at {i}"), came, (0, boards as u32))?;
     }
     Ok(())
 }

@@ -13,6 +13,7 @@ pub mod order;
 pub mod random;
 pub mod refusals;
 pub mod rival;
+pub mod rosters;
 pub mod shape;
 pub mod small;
 pub mod texts;
@@ -103,7 +104,7 @@ pub fn holds(what: &str, yes: bool) -> Result<(), String> {
 pub fn all(print: &mut dyn FnMut(&str)) -> Result<Tally, String> {
     let mut tally = Tally::default();
     type Check = fn(&mut Tally) -> Verdict;
-    let checks: [Check; 15] = [
+    let checks: [Check; 17] = [
         bench::worked_example,
         bench::bench_cases,
         cases::hand_worked,
@@ -112,6 +113,8 @@ pub fn all(print: &mut dyn FnMut(&str)) -> Result<Tally, String> {
         refusals::calls_turned_back,
         refusals::changes_turned_back,
         refusals::runs_turned_back,
+        rosters::told_by_hand,
+        rosters::every_bit,
         audits::audits_agree,
         small::every_small_rack,
         wanderings::from_empty_racks,

@@ -4,10 +4,15 @@
 use super::bench::text_of_length;
 use super::book::Book;
 use super::{came, holds, same, Tally, Verdict};
-use crate::{audit, change, level, linked, make, mate, run};
+use crate::{audit, change, level, linked, make, mate, roster, run};
 use crate::{Answer, Outcome, RACK_BYTES, RECORD_SPACE, TEXT_LIMIT};
 
-const WRONG_LENGTHS: [usize; 5] = [0, 1, 9_991, 9_993, 20_000];
+/// Among them the length of document 01, which was the right one before the
+/// rosters.
+const WRONG_LENGTHS: [usize; 8] = [0, 1, 9_991, 9_992, 9_993, 10_151, 10_153, 20_000];
+
+/// Levels to ask about, most of which no board can stand at.
+const LEVELS: [i32; 11] = [i32::MIN, -257, -3, -2, -1, 0, 3, 4, 5, 255, i32::MAX];
 
 /// Bytes with no meaning, to see that they stay.
 fn noise(length: usize) -> Vec<u8> {
@@ -35,6 +40,9 @@ pub fn calls_turned_back(_: &mut Tally) -> Verdict {
         same("level", level(&buffer, 0), (1, 0))?;
         same("mate", mate(&buffer, 900), (1, 0))?;
         same("linked", linked(&buffer, 7, 7), (1, 0))?;
+        for at in LEVELS {
+            same("roster", roster(&buffer, at), (1, 0))?;
+        }
     }
     let mut buffer = noise(RACK_BYTES);
     for n in [0, 257, 65_536, 65_537, u32::MAX] {
@@ -45,6 +53,9 @@ pub fn calls_turned_back(_: &mut Tally) -> Verdict {
     same("level", level(&buffer, 900), (6, 0))?;
     same("mate", mate(&buffer, 900), (6, 0))?;
     same("linked", linked(&buffer, 900, 900), (6, 0))?;
+    for at in LEVELS {
+        same("roster", roster(&buffer, at), (6, 0))?;
+    }
     queries_on_a_sound_rack()?;
     making_any()?;
     Ok("making, audit and queries turned back by 1, 5, 6, 8, 9: ok".into())
@@ -75,6 +86,14 @@ fn queries_on_a_sound_rack() -> Result<(), String> {
             same("linked", linked(&rack, v, w), wanted)?;
         }
     }
+    for at in LEVELS {
+        let boards = match at {
+            -1 => 3,
+            0 => 2,
+            _ => 0,
+        };
+        same("roster", roster(&rack, at), (0, boards))?;
+    }
     Ok(())
 }
 
@@ -87,6 +106,9 @@ fn making_any() -> Result<(), String> {
         let mut wanted = vec![0; RACK_BYTES];
         wanted[..2].copy_from_slice(&(n as u16).to_le_bytes());
         wanted[264..776].fill(255);
+        for v in 0..n as usize {
+            wanted[9_992 + v / 8] |= 1 << (v % 8);
+        }
         holds("a rack made is empty", rack == wanted)?;
     }
     Ok(())
@@ -98,7 +120,7 @@ pub fn changes_turned_back(tally: &mut Tally) -> Verdict {
     let mut unsound = good.clone();
     unsound[5] = 1;
     let earlier = tally.clone();
-    for (fixed, buffer) in [(None, good), (Some(6), unsound), (Some(1), noise(9_991))] {
+    for (fixed, buffer) in [(None, good), (Some(6), unsound), (Some(1), noise(9_992))] {
         for code in [0, 1, 2, 3, 257, u32::MAX] {
             for a in BOARDS {
                 for b in BOARDS {
@@ -162,7 +184,7 @@ pub fn runs_turned_back(_: &mut Tally) -> Verdict {
     ];
     let mut numbers = [0; 6];
     for (text, number, line) in texts {
-        for rack in [0, 9_991, 9_992, 9_993] {
+        for rack in [0, 9_992, 10_151, 10_152, 10_153] {
             for record in [0, 65_535, 65_536, 65_537, 70_000] {
                 let first = first_number(rack, number, record);
                 let line = if first == 4 { line } else { 0 };

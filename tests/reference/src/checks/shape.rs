@@ -12,7 +12,7 @@ struct Picture {
 
 const NONE: u16 = 65_535;
 
-/// Whether these 9,992 bytes are a sound rack; if not, one thing amiss.
+/// Whether these 10,152 bytes are a sound rack; if not, one thing amiss.
 pub fn examine(bytes: &[u8]) -> Result<(), String> {
     let picture = look(bytes)?;
     let counts = tell_counts(&picture);
@@ -84,7 +84,7 @@ fn tell_counts(picture: &Picture) -> Vec<[usize; 4]> {
 }
 
 fn write(picture: &Picture, counts: &[[usize; 4]]) -> Vec<u8> {
-    let mut head = Vec::with_capacity(9_992);
+    let mut head = Vec::with_capacity(10_152);
     head.extend((picture.n as u16).to_le_bytes());
     head.extend((picture.links.len() as u16).to_le_bytes());
     head.extend([0; 4]);
@@ -93,9 +93,13 @@ fn write(picture: &Picture, counts: &[[usize; 4]]) -> Vec<u8> {
     head.extend(picture.mates.iter().flat_map(|mate| mate.to_le_bytes()));
     head.resize(776, 255);
     head.extend(counts.iter().flatten().map(|&count| count as u8));
-    head.resize(9_992, 0);
+    head.resize(10_152, 0);
     for (v, w) in &picture.links {
         head[1800 + 32 * v + w / 8] |= 1 << (w % 8);
+    }
+    // A level byte is also the place of its roster among the five.
+    for (v, level) in picture.levels.iter().enumerate() {
+        head[9_992 + 32 * usize::from(*level) + v / 8] |= 1 << (v % 8);
     }
     head
 }

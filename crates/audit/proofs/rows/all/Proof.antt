@@ -21,12 +21,14 @@ abbrev μ-loop : tie.MeasureT-loop
 μ-loop rack tally₀ n v₀ tally v = n - v
 
 loop-holds : tie.Need-loop-holds Inv-loop μ-loop
-loop-holds c = let s = c .before .before in (omega arith, (refl, (s .pre .1 .1, λ w h. absurd (omega arith))))
+loop-holds c = let s = c .before .before in (omega arith, (refl, (s .pre .1 .1 .1, λ w h. absurd (omega arith))))
 
 row-requires : tie.Need-row-requires Inv-loop μ-loop
 row-requires c κs =
     let s = c .before .before .before .before .before in
-    (s .pre .0, (s .pre .1 .0, (c .before .loop-test .taken, c .before .before .loop .inv .1 .1 .0)))
+    let v = c .before .before .loop .v in
+    let h = c .before .loop-test .taken in
+    (s .pre .0, (s .pre .1 .0, ((h, s .pre .1 .1 .0 v h), c .before .before .loop .inv .1 .1 .0)))
 
 same-length : tie.Need-same-length Inv-loop μ-loop
 same-length c = let r = c .before .before .before in r .row .kept .1 .0 ∙ r .before .before .before .loop .inv .1 .0

@@ -1,7 +1,8 @@
 -- `audit::rows::once_word` meets its contract. The loop's invariant: no second owner is found as far as some place of the word, and x holds
 -- the places from there on. Assumes nothing.
 use mathlib.Core.Path.{sym, _∙_, subst}
-use Prim.Native.Nat.{_+_, _*_, _<_}
+use mathlib.Core.List.{List}
+use Prim.Native.Nat.{ℕ, _+_, _*_, _<_}
 use native.Mathlib.Omega.{arith}
 use lib.Dec.{T}
 use lib.Count.{trailingZeros}
@@ -11,7 +12,7 @@ use Rattle.model.proofs.Tests.{true-T}
 use Rattle.bitset.proofs.Words.{dropped-less}
 use Rattle.layout.proofs.Said.{says-yes, says-no}
 use Rattle.audit.specs.Parts.{OnceBelow}
-use Rattle.audit.proofs.Walk.{Midway, midway-start, midway-first, midway-next, midway-end, once-skips, once-add}
+use Rattle.audit.proofs.Walk.{Midway, Skips, midway-start, midway-first, midway-next, midway-end, each-skips, each-add}
 use borrow.Author.Needs.{needs}
 use Rattle.audit.proofs.rows.once_word.Statement.{statement}
 use Rattle.audit.proofs.rows.once_word.Tie as tie
@@ -21,6 +22,10 @@ Inv-loop rack v k x₀ x = Midway (ownsAt low rack v) (OnceBelow low rack v) (64
 
 abbrev μ-loop : tie.MeasureT-loop
 μ-loop rack v k x₀ x = x
+
+-- no second owner is found as far as a place goes on where v owns nothing
+skips : (bs : List ℕ) (v : ℕ) → Skips (ownsAt low bs v) (OnceBelow low bs v)
+skips bs v = each-skips (ownsAt low bs v) (λ w. T (ownsAt low bs w v) → ⊥)
 
 word-requires : tie.Need-word-requires Inv-loop μ-loop
 word-requires c κs = search needs
@@ -44,7 +49,7 @@ first c =
     let s = c .before .before .before .before in
     let l = c .before .loop in
     let bs = s .args .rack .now in
-    midway-first (ownsAt low bs (s .args .v)) (OnceBelow low bs (s .args .v)) (once-skips low bs (s .args .v)) (64 * s .args .k) (l .x) (l .inv)
+    midway-first (ownsAt low bs (s .args .v)) (OnceBelow low bs (s .args .v)) (skips bs (s .args .v)) (64 * s .args .k) (l .x) (l .inv)
     (omega (arith, c .loop-test .taken))
 
 cast-w : tie.Need-cast-w Inv-loop μ-loop
@@ -82,8 +87,8 @@ loop-again c =
     let bs = s .args .rack .now in
     let v = s .args .v in
     let w = 64 * s .args .k + trailingZeros 64 (l .x) in
-    midway-next (ownsAt low bs v) (OnceBelow low bs v) (once-skips low bs v) (64 * s .args .k) (l .x) (l .inv) (omega (arith, t .loop-test .taken)) (OnceBelow low bs v)
-    (once-add low bs v w (first t .2) (λ o. subst T (sym (c .before .owns .ensures) ∙ c .if1 .left) o))
+    midway-next (ownsAt low bs v) (OnceBelow low bs v) (skips bs v) (64 * s .args .k) (l .x) (l .inv) (omega (arith, t .loop-test .taken)) (OnceBelow low bs v)
+    (each-add (ownsAt low bs v) (λ x. T (ownsAt low bs x v) → ⊥) w (first t .2) (λ o. subst T (sym (c .before .owns .ensures) ∙ c .if1 .left) o))
 
 returns-2 : tie.Need-returns-2 Inv-loop μ-loop
 returns-2 c =
@@ -91,7 +96,7 @@ returns-2 c =
     let l = c .before .loop in
     let bs = s .args .rack .now in
     let v = s .args .v in
-    says-yes (midway-end (ownsAt low bs v) (OnceBelow low bs v) (once-skips low bs v) (64 * s .args .k) (l .x) (l .inv) (c .loop-test .left))
+    says-yes (midway-end (ownsAt low bs v) (OnceBelow low bs v) (skips bs v) (64 * s .args .k) (l .x) (l .inv) (c .loop-test .left))
 
 pub once-word-spec : {M : Type 1} → statement M
 once-word-spec =

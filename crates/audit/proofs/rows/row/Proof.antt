@@ -1,22 +1,34 @@
 -- `audit::rows::row` meets its contract. Assumes nothing.
-use mathlib.Core.Path.{_≡_}
-use Prim.Native.Nat.{suc, _≤_}
+use Prim.Native.Nat.{_≤_, _<_}
 use native.Mathlib.Omega.{arith}
 use borrow.Author.Tests.{not-true, not-false}
 use Rattle.model.specs.Shape.{low}
 use Rattle.model.specs.State.{base}
 use Rattle.model.specs.Bytes.{rankAt}
-use Rattle.layout.proofs.Said.{said, unsaid, says-no, says-by}
-use Rattle.audit.proofs.Walk.{top-adds-none}
+use Rattle.model.proofs.Shapes.{low-good}
+use Rattle.layout.proofs.Said.{said, unsaid, says-yes, says-no, says-by}
+use Rattle.audit.proofs.Walk.{empty-row, empty-adds-none, top-adds-none}
 use borrow.Author.Needs.{needs}
 use Rattle.audit.proofs.rows.row.Statement.{statement}
 use Rattle.audit.proofs.rows.row.Tie as tie
 
+is-empty-requires : tie.Need-is-empty-requires
+is-empty-requires c κs = search needs
+
+returns : tie.Need-returns
+returns c =
+    let s = c .before .before .before .before in
+    let bs = s .args .rack .now in
+    let none = said (c .before .is-empty .ensures) (c .if1 .taken) in (
+      says-yes (empty-row low-good bs (s .args .n) (s .args .v) (s .pre .1 .0) (omega arith) none),
+      λ _. empty-adds-none low bs (s .args .tally .now) (s .args .v) none (s .pre .1 .1 .1),
+    )
+
 owns-none-from-requires : tie.Need-owns-none-from-requires
 owns-none-from-requires c κs = search needs
 
-returns : tie.Need-returns
-returns c = (says-no (λ g. unsaid (c .before .owns-none-from .ensures) (not-true _ (c .if1 .taken)) (g .within)), λ z. absurd z)
+returns-2 : tie.Need-returns-2
+returns-2 c = (says-no (λ g. unsaid (c .before .owns-none-from .ensures) (not-true _ (c .if2 .taken)) (g .within)), λ z. absurd z)
 
 rank-requires : tie.Need-rank-requires
 rank-requires c κs = search needs
@@ -30,18 +42,18 @@ top-requires c κs = search needs
 walk-row-requires : tie.Need-walk-row-requires
 unfolding base
 walk-row-requires c κs =
-    let s = c .before .before .before .before .before .before .before .before in
-    let none = c .before .before .before .before in (
+    let none = c .before .before .before .before in
+    let s = none .before .before .before .before .before .before in (
       s .pre .0,
       (
         s .pre .1 .0,
         (
-          s .pre .1 .1 .0,
+          s .pre .1 .1 .0 .0,
           (
             c .before .before .before .rank .ensures,
             (
-              omega (arith, c .before .if2 .taken, c .before .before .top .ensures),
-              (said (none .before .owns-none-from .ensures) (not-false _ (none .if1 .left)), s .pre .1 .1 .1),
+              omega (arith, c .before .if3 .taken, c .before .before .top .ensures),
+              (said (none .before .owns-none-from .ensures) (not-false _ (none .if2 .left)), s .pre .1 .1 .1),
             ),
           ),
         ),
@@ -51,40 +63,22 @@ walk-row-requires c κs =
 same-length : tie.Need-same-length
 same-length c = c .before .before .walk-row .kept .1 .0
 
-returns-2 : tie.Need-returns-2
-returns-2 c =
+returns-3 : tie.Need-returns-3
+returns-3 c =
     let w = c .before .before in
     let t = w .before .before in
     let none = t .before .before .before in
-    let s = none .before .before .before .before in
+    let s = none .before .before .before .before .before .before in
     let under : rankAt (s .args .rack .now) (s .args .v) ≤ base .top =
-    omega (arith, t .if2 .taken, t .before .top .ensures, t .before .before .rank .ensures) in (
+    omega (arith, t .if3 .taken, t .before .top .ensures, t .before .before .rank .ensures) in (
       says-by
           (λ g. record {
-            ranked = omega arith;
-            within = said (none .before .owns-none-from .ensures) (not-false _ (none .if1 .left));
+            within = said (none .before .owns-none-from .ensures) (not-false _ (none .if2 .left));
             below = λ _. g;
             top = λ h. absurd (omega arith);
           })
           (λ g. g .below under) (w .walk-row .ensures .0),
       w .walk-row .ensures .1,
-    )
-
-add-if3 : tie.Need-add-if3
-add-if3 c = search needs
-
-returns-3 : tie.Need-returns-3
-returns-3 c =
-    let s = c .before .before .before .before .before .before .before .before in (
-      says-no (λ g. omega (
-        arith,
-        g .ranked,
-        c .if3 .taken,
-        c .before .if2 .left,
-        c .before .before .top .ensures,
-        c .before .before .before .rank .ensures,
-      )),
-      λ z. absurd z,
     )
 
 once-row-requires : tie.Need-once-row-requires
@@ -94,19 +88,17 @@ returns-4 : tie.Need-returns-4
 unfolding base
 returns-4 c =
     let t = c .before in
-    let none = t .before .before .before .before in
-    let s = none .before .before .before .before in
+    let none = t .before .before .before in
+    let s = none .before .before .before .before .before .before in
     let bs = s .args .rack .now in
-    let high : rankAt bs (s .args .v) ≡ suc (base .top) =
-    omega (arith, t .if3 .left, t .before .before .top .ensures, t .before .before .before .rank .ensures) in (
+    let high : base .top < rankAt bs (s .args .v) = omega (arith, t .if3 .left, t .before .top .ensures, t .before .before .rank .ensures) in (
       says-by
           (λ g. record {
-            ranked = omega arith;
-            within = said (none .before .owns-none-from .ensures) (not-false _ (none .if1 .left));
+            within = said (none .before .owns-none-from .ensures) (not-false _ (none .if2 .left));
             below = λ h. absurd (omega arith);
             top = λ _. g;
           })
-          (λ g. g .top (omega arith)) (c .once-row .ensures),
+          (λ g. g .top high) (c .once-row .ensures),
       λ _. top-adds-none low bs (s .args .tally .now) (s .args .v) (omega arith) (s .pre .1 .1 .1),
     )
 
@@ -114,15 +106,15 @@ pub row-spec : {M : Type 1} → statement M
 row-spec =
     tie.close
     (tie.spec
-    owns-none-from-requires
+    is-empty-requires
     returns
+    owns-none-from-requires
+    returns-2
     rank-requires
     cast-r
     top-requires
     walk-row-requires
     same-length
-    returns-2
-    add-if3
     returns-3
     once-row-requires
     returns-4)

@@ -1,12 +1,8 @@
 -- `layout::words::word` meets its contract: the bytes of the row are a word of the whole buffer. Assumes nothing.
-use mathlib.Core.Path.{subst}
-use Prim.Native.Nat.{ℕ, _+_, _*_}
 use native.Mathlib.Omega.{arith}
 use borrow.Author.Needs.{needs}
-use Rattle.model.specs.Shape.{low}
-use Rattle.bitset.specs.Row.{member}
-use Rattle.bitset.specs.Words.{Rest}
-use Rattle.layout.proofs.Spans.{word-owns}
+use Rattle.model.specs.Bytes.{ownsAt}
+use Rattle.layout.proofs.Spans.{word-row}
 use Rattle.layout.proofs.words.word.Statement.{statement}
 use Rattle.layout.proofs.words.word.Tie as tie
 
@@ -23,11 +19,10 @@ word-requires : tie.Need-word-requires
 word-requires c κs = omega (arith, c .row-at .ensures .within)
 
 returns : tie.Need-returns
+unfolding ownsAt
 returns c =
     let a = c .before .before .before .args in
-    let x = c .word .result in
-    word-owns low (a .rack .now) (a .v) (a .k) x
-    (subst (λ (at : ℕ). Rest (λ j. member (a .rack .now) (8 * (at + 8 * a .k) + j)) 0 x) (c .before .row-at .ensures .at) (c .word .ensures))
+    word-row (a .rack .now) (a .k) (c .word .result) (c .before .row-at .ensures) (c .word .ensures)
 
 pub word-spec : {M : Type 1} → statement M
 word-spec = tie.close (tie.spec row-at-requires mul-word add-word word-requires returns)
