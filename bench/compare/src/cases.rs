@@ -81,6 +81,16 @@ pub fn with_edges(size: Size) -> RackBytes {
     rack
 }
 
+/// A rack of n vertices, each with an edge to the next and added in order: every
+/// row but the last then has one edge.
+pub fn chain(n: usize) -> RackBytes {
+    let mut rack = fresh(n);
+    for v in 1..n as u32 {
+        tuned::change_sound(&mut rack, 1, v - 1, v, &[0; 128]);
+    }
+    rack
+}
+
 /// Each level of a rack of 256 vertices, with how many are there by their ranks.
 pub fn counts_at_levels(rack: &RackBytes) -> [(i32, u32); 5] {
     let count = |level: i32| {

@@ -4,18 +4,21 @@
 //! To copy or clear bytes takes libc a few instructions more or less by where
 //! they lie. What would move the racks of other kinds is not inlined.
 
-use crate::cases::{counts_at_levels, with_edges, Parted, Series, Size};
+use crate::cases::{chain, counts_at_levels, with_edges, Parted, Series, Size};
 use crate::side::Side;
 use crate::texts::Text;
 use std::hint::black_box;
-use tuned::{RACK_BYTES, RECORD_SPACE};
+use tuned::{RackBytes, RACK_BYTES, RECORD_SPACE};
 
 /// Makes the calls and gives how many calls, or changes of runs, they were.
 /// The size is the edges of a rack of 256 vertices for "audit", "roster" and
 /// "parted", or else the vertices.
 pub fn once(side: Side, kind: &str, size: usize, calls: usize) -> Result<usize, String> {
     match kind {
-        "audit" | "half-audit" | "full-audit" => Ok(audits(side, sized(kind, size), calls)),
+        "audit" | "half-audit" | "full-audit" => {
+            Ok(audits(side, with_edges(sized(kind, size)), calls))
+        }
+        "chain-audit" => Ok(audits(side, chain(size), calls)),
         "roster" => Ok(rosters(side, sized(kind, size), calls)),
         "direct" => direct(side, size, calls),
         "before" => before(side, size, calls),
@@ -43,8 +46,7 @@ fn measured(calls: impl FnOnce()) {
     calls();
 }
 
-fn audits(side: Side, size: Size, calls: usize) -> usize {
-    let rack = with_edges(size);
+fn audits(side: Side, rack: RackBytes, calls: usize) -> usize {
     measured(|| {
         for _ in 0..calls {
             assert!(side.audit(black_box(&rack)), "a sound rack");

@@ -13,8 +13,9 @@ use Rattle.model.specs.Shape.{Shape}
 use Rattle.model.specs.Bytes.{rankAt, rosterAt}
 use Rattle.model.proofs.Tests.{eq?, le?, true-T, bool-ext, eqb-yes, or-cases, or-left, or-right}
 use Rattle.bitset.specs.Words.{Rest}
+use Rattle.bitset.proofs.Words.{rest-end}
 use Rattle.bitset.proofs.Sets.{rest-or, none-rest, same-places, places-same}
-use Rattle.audit.specs.Parts.{listedIn, Rosters}
+use Rattle.audit.specs.Parts.{listedIn, AllRankedBelow, RostersBelow, Rosters}
 
 -- ---- who is in a roster
 
@@ -50,7 +51,7 @@ module _ (S : Shape) (bs : List ℕ) (v : ℕ) where
 
 module _ (p q : ℕ → Bool) (k x y : ℕ) (a : Rest (λ j. p (64 * k + j)) 0 x) (b : Rest (λ j. q (64 * k + j)) 0 y) where
   -- a word more that is the same
-  pub agree-more : x ≡ y → ((v : ℕ) → v < 64 * k → p v ≡ q v) → (v : ℕ) → v < 64 * (k + 1) → p v ≡ q v
+  pub agree-more : x ≡ y → ((v : ℕ) → v < 64 * k → p v ≡ q v) → (v : ℕ) → v < 64 * k + 64 → p v ≡ q v
   agree-more e g v h = elim (le? (64 * k) v) [
     | inl l ↦
         let at : v ≡ 64 * k + (v - 64 * k) = omega arith in
@@ -58,9 +59,26 @@ module _ (p q : ℕ → Bool) (k x y : ℕ) (a : Rest (λ j. p (64 * k + j)) 0 x
     | inr l ↦ g v l
   ]
 
-  -- the word of two that agree as far as m
-  pub agree-word : (m : ℕ) → 64 * k + 64 ≤ m → ((v : ℕ) → v < m → p v ≡ q v) → x ≡ y
-  agree-word m h g = places-same a b (λ j l. g (64 * k + j) (omega arith))
+  -- the word of two that agree
+  pub agree-word : ((v : ℕ) → v < 64 * k + 64 → p v ≡ q v) → x ≡ y
+  agree-word g = places-same a b (λ j l. g (64 * k + j) (omega arith))
+
+-- ---- as far as a place
+
+-- a word in which none is listed
+pub ranked-past : (S : Shape) (bs : List ℕ) (k x : ℕ) → Rest (λ j. listedIn S bs (suc (S .levels)) (64 * k + j)) 0 x → x ≡ 0
+    → AllRankedBelow S bs (64 * k) → AllRankedBelow S bs (64 * k + 64)
+ranked-past S bs k x a e g r l v h t = elim (le? (64 * k) v) [
+  | inl past ↦
+      let at : v ≡ 64 * k + (v - 64 * k) = omega arith in
+      let listed = listed-yes S bs v (suc (S .levels)) r (omega arith) t in
+      absurd (rest-end a e (v - 64 * k) (omega arith) (omega arith) (subst (λ (w : ℕ). T (listedIn S bs (suc (S .levels)) w)) at listed))
+  | inr before ↦ g r l v before t
+]
+
+-- what is right is right in a part
+pub rosters-less : {S : Shape} {bs : List ℕ} {n p q : ℕ} → q ≤ p → RostersBelow S bs n p → RostersBelow S bs n q
+rosters-less h g = record { ranked = λ r l v k. g .ranked r l v (omega arith); together = λ v k. g .together v (omega arith) }
 
 -- ---- from the tests to the facts, and back
 

@@ -10,14 +10,13 @@ use lib.Dec.{T}
 use lib.ListN.{getD}
 use lib.Bits.{bitAnd}
 use lib.Count.{trailingZeros}
-use Rattle.model.specs.Shape.{Shape, GoodShape}
+use Rattle.model.specs.Shape.{Shape}
 use Rattle.model.specs.Bytes.{rankAt, ownsAt}
 use Rattle.model.proofs.Tests.{eq?, le?}
 use Rattle.bitset.specs.Words.{Rest}
 use Rattle.bitset.proofs.Words.{rest-first, rest-end}
-use Rattle.layout.proofs.Walks.{row-whole}
 use Rattle.audit.specs.Tally.{tallied, partly, Holds, Added}
-use Rattle.audit.specs.Parts.{Right, RightBelow, Walked, Row}
+use Rattle.audit.specs.Parts.{Right, Walked}
 use Rattle.audit.proofs.Tally.{share-other, share-add, share-skip, share-none, tallied-suc, partly-small}
 
 -- ---- within a word
@@ -105,38 +104,18 @@ module _ (S : Shape) (bs t : List ℕ) (v : ℕ) where
   }
 
   -- all of the row
-  pub walked-end : (p : ℕ) → p ≤ S .most → ((j : ℕ) → j < S .most → p ≤ j → T (ownsAt S bs v j) → ⊥) → Walked S bs t v p → Holds S t (tallied S bs (v + 1))
+  pub walked-end : Walked S bs t v (S .most) → Holds S t (tallied S bs (v + 1))
   unfolding partly
-  walked-end p h none w =
-      let all = walked-skips p (S .most) h (λ j a b. none j b a) w in
-      record { long = w .tally .long; at = λ x r hx hr. all .tally .at x r hx hr ∙ sym (tallied-suc S bs v x r) }
+  walked-end w = record { long = w .tally .long; at = λ x r hx hr. w .tally .at x r hx hr ∙ sym (tallied-suc S bs v x r) }
 
   -- entries stay small
   pub walked-small : 2 * S .most < 65534 → (p r : ℕ) → v < S .most → p ≤ S .most → r < S .levels → Walked S bs t v p
       → (x : ℕ) → x < S .most → getD t (S .levels * x + r) 0 < 65534
   walked-small fits p r hv hp hr w x hx = omega (arith, w .tally .at x r hx hr, partly-small S fits bs v p x r hv hp)
 
-  -- where no edge leads past n, a row is right as far as any place
-  pub right-past : (n p : ℕ) → p ≤ S .most → ((j : ℕ) → j < S .most → n ≤ j → T (ownsAt S bs v j) → ⊥) → RightBelow S bs v n → RightBelow S bs v p
-  right-past n p h none g w l o = elim (le? n w) [ inl a ↦ absurd (none w (omega arith) a o) | inr a ↦ g w a o ]
-
-  -- a row with no edge adds nothing
-  pub empty-adds-none : ((w : ℕ) → w < S .most → T (ownsAt S bs v w) → ⊥) → Holds S t (tallied S bs v) → Holds S t (tallied S bs (v + 1))
-  empty-adds-none none h = walked-end 0 (omega arith) (λ w l _. none w l) (walked-start h)
-
-  -- nor does a row whose rank has no entry
+  -- a row whose rank has no entry adds nothing
   pub top-adds-none : S .levels ≤ rankAt bs v → Holds S t (tallied S bs v) → Holds S t (tallied S bs (v + 1))
   top-adds-none h k = record {
     long = k .long;
     at = λ x r hx hr. omega (arith, k .at x r hx hr, tallied-suc S bs v x r, share-other S bs v (S .most) x r (λ e. omega arith));
   }
-
--- ---- a row with no edge
-
-pub empty-row : {S : Shape} → GoodShape S → (bs : List ℕ) (n v : ℕ) → n ≤ S .most → v < S .most
-    → ((w : ℕ) → w < S .most → T (ownsAt S bs v w) → ⊥) → Row S bs n v
-empty-row good bs n v few h none = record {
-  within = λ w l _. none w l;
-  below = λ _ w l t. absurd (none w (omega arith) t);
-  top = λ _ w l t _. none w (omega (arith, row-whole good)) t;
-}

@@ -15,7 +15,7 @@ use Rattle.model.specs.Sound.{sound}
 use Rattle.model.proofs.Shapes.{Full}
 use Rattle.model.proofs.Tests.{le?, bool-ext}
 use Rattle.model.proofs.Facts.{Says, Unused, Facts, sound-says}
-use Rattle.layout.specs.Rows.{degreeAt}
+use Rattle.layout.specs.Rows.{degreeAt, OwnsNoneFrom}
 use Rattle.layout.proofs.Walks.{row-whole}
 use Rattle.audit.specs.Tally.{tallied}
 use Rattle.audit.specs.Parts.{Row, Edges, Rosters, Mate}
@@ -34,22 +34,22 @@ module _ (S : Shape) (bs : List ℕ)
     (few : sizeAt bs ≤ S .most)
     (ranks : (v : ℕ) → v < sizeAt bs → rankAt bs v ≤ suc (base .top))
     (rows : (v : ℕ) → v < sizeAt bs → Row S bs (sizeAt bs) v) where
-  rows-within : (v : ℕ) → v < sizeAt bs → (w : ℕ) → w < S .most → sizeAt bs ≤ w → T (ownsAt S bs v w) → ⊥
+  rows-within : (v : ℕ) → v < sizeAt bs → OwnsNoneFrom S bs v (sizeAt bs)
   rows-within v h = rows v h .within
 
   -- an owner at the top is as high as any
   rows-high : (v : ℕ) → v < sizeAt bs → (w : ℕ) → w < sizeAt bs → T (ownsAt S bs v w) → rankAt bs w ≤ rankAt bs v
   rows-high v hv w hw o = elim (le? (rankAt bs v) (base .top)) [
-    | inl l ↦ rows v hv .below l w hw o .high
+    | inl l ↦ rows v hv .below l w (omega arith) o .high
     | inr l ↦ omega (arith, ranks w hw)
   ]
 
   -- both bits of an edge are seen from an end below the top, or from the higher number
   rows-once : (v : ℕ) → v < sizeAt bs → (w : ℕ) → w < sizeAt bs → T (ownsAt S bs v w) → T (ownsAt S bs w v) → ⊥
   rows-once v hv w hw o t = elim (le? (rankAt bs v) (base .top)) [
-    | inl l ↦ rows v hv .below l w hw o .once t
+    | inl l ↦ rows v hv .below l w (omega arith) o .once t
     | inr l ↦ elim (le? (rankAt bs w) (base .top)) [
-      | inl k ↦ rows w hw .below k v hv t .once o
+      | inl k ↦ rows w hw .below k v (omega arith) t .once o
       | inr k ↦ elim (le? w v) [ inl a ↦ rows v hv .top l w (omega arith) o t | inr a ↦ rows w hw .top k v (omega arith) t o ]
     ]
   ]
@@ -92,13 +92,16 @@ module _ (S : Shape) (good : GoodShape S) (full : Full S) (bs : List ℕ) where
   module _ (f : Facts base S bs) where
     pub facts-rows : (v : ℕ) → v < sizeAt bs → Row S bs (sizeAt bs) v
     facts-rows v h = record {
-      within = λ w a b. f .unnamed v (omega (arith, f .size .1)) w a b;
-      below = λ _ w k o. record { high = f .owner-high v h w k o; once = λ t. f .owned-once v h w k (o, t) };
-      top = λ _ w k o t. elim (le? (sizeAt bs) w) [
-        | inl a ↦ f .unnamed v (omega (arith, f .size .1)) w (omega (arith, f .size .1, row-whole good)) a o
-        | inr a ↦ f .owned-once v h w a (o, t)
-      ];
+      within = none;
+      below = λ _ w k o. record { high = f .owner-high v h w (named w k o) o; once = λ t. f .owned-once v h w (named w k o) (o, t) };
+      top = λ _ w k o t. f .owned-once v h w (named w (omega (arith, f .size .1, row-whole good)) o) (o, t);
     }
+      where
+        none : OwnsNoneFrom S bs v (sizeAt bs)
+        none = f .unnamed v (omega (arith, f .size .1))
+
+        named : (w : ℕ) → w < S .most → T (ownsAt S bs v w) → w < sizeAt bs
+        named w k o = elim (le? (sizeAt bs) w) [ inl a ↦ absurd (none w k a o) | inr a ↦ a ]
 
     pub facts-edges : Edges S bs (sizeAt bs)
     facts-edges = record {

@@ -11,6 +11,7 @@ use Rattle.model.specs.Shape.{Shape}
 use Rattle.model.specs.State.{base}
 use Rattle.model.specs.Bytes.{noMate, rankAt, mateAt, phiAt, ownsAt, rosterAt}
 use Rattle.model.proofs.Facts.{Mated}
+use Rattle.layout.specs.Rows.{OwnsNoneFrom}
 use Rattle.audit.specs.Tally.{Holds, tallied, partly, upTo}
 
 -- the edge v-w, which v owns, is owned rightly: "an owner's level is at least the other end's", "no link has both bits set"
@@ -38,8 +39,8 @@ wordEnd v = 64 * (v / 64 + 1)
 
 -- row v of a rack of n vertices is right
 pub record Row (S : Shape) (bs : List ℕ) (n v : ℕ) : Type 0 where
-  pub within : (w : ℕ) → w < S .most → n ≤ w → T (ownsAt S bs v w) → ⊥
-  pub below : rankAt bs v ≤ base .top → RightBelow S bs v n
+  pub within : OwnsNoneFrom S bs v n
+  pub below : rankAt bs v ≤ base .top → RightBelow S bs v (S .most)
   pub top : base .top < rankAt bs v → OnceBelow S bs v (wordEnd v)
 
 -- the count of v at j is what the tally says, and below the threshold
@@ -57,16 +58,23 @@ pub record Edges (S : Shape) (bs : List ℕ) (n : ℕ) : Type 0 where
 abbrev pub RankedBelow : Shape → List ℕ → ℕ → ℕ → Type 0
 RankedBelow S bs r p = (v : ℕ) → v < p → T (rosterAt S bs r v) → rankAt bs v ≡ r
 
+-- and that of every roster
+abbrev pub AllRankedBelow : Shape → List ℕ → ℕ → Type 0
+AllRankedBelow S bs p = (r : ℕ) → r ≤ S .levels → RankedBelow S bs r p
+
 -- v is in the roster of a rank below m
 unfoldable pub listedIn : Shape → List ℕ → ℕ → ℕ → Bool
 listedIn S bs zero v = false
 listedIn S bs (suc m) v = listedIn S bs m v || rosterAt S bs m v
 
--- The rosters of a rack of n vertices are right: who is in one has its rank, and together they are the vertices below n. So none is in two, and
--- each is in that of its rank (proofs/Enrolled.antt).
-pub record Rosters (S : Shape) (bs : List ℕ) (n : ℕ) : Type 0 where
-  pub ranked : (r : ℕ) → r ≤ S .levels → RankedBelow S bs r (S .most)
-  pub together : (v : ℕ) → v < S .most → listedIn S bs (suc (S .levels)) v ≡ ltb v n
+-- The rosters of a rack of n vertices are right as far as p: who is in one has its rank, and together they are the vertices below n. So none is in
+-- two, and each is in that of its rank (proofs/Enrolled.antt).
+pub record RostersBelow (S : Shape) (bs : List ℕ) (n p : ℕ) : Type 0 where
+  pub ranked : AllRankedBelow S bs p
+  pub together : (v : ℕ) → v < p → listedIn S bs (suc (S .levels)) v ≡ ltb v n
+
+abbrev pub Rosters : Shape → List ℕ → ℕ → Type 0
+Rosters S bs n = RostersBelow S bs n (S .most)
 
 -- v's mate is right, and v has none exactly if its rank is 0
 pub record Mate (S : Shape) (bs : List ℕ) (v : ℕ) : Type 0 where

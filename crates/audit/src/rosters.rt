@@ -1,12 +1,10 @@
 // The rosters of a rack: who is in one has its rank, and together they are the vertices of the rack.
-ghost use mathlib.Core.Path.{_≡_};
-ghost use Prim.Native.Nat.{ℕ, suc, _+_, _*_, _<_, _≤_};
-ghost use lib.Dec.{ltb};
+ghost use Prim.Native.Nat.{suc, _+_, _*_, _<_, _≤_};
 ghost use Rattle.model.specs.Shape.{low};
 ghost use Rattle.model.proofs.Facts.{Says};
 ghost use Rattle.bitset.specs.Words.{Rest};
 ghost use Rattle.layout.specs.Setters.{Sized};
-ghost use Rattle.audit.specs.Parts.{listedIn, RankedBelow, Rosters};
+ghost use Rattle.audit.specs.Parts.{listedIn, RankedBelow, AllRankedBelow, RostersBelow, Rosters};
 
 // Whether those in word k of the roster of rank r have that rank, as those in the words before it.
 fn ranked_word(rack: &[u8], r: usize, k: usize) -> bool
@@ -27,30 +25,16 @@ fn ranked_word(rack: &[u8], r: usize, k: usize) -> bool
     true
 }
 
-// Whether those in the roster of rank r have that rank.
-fn ranked(rack: &[u8], r: usize) -> bool
+// Whether those in word k of any roster have its rank, as those in the words before it.
+fn ranked_words(rack: &[u8], k: usize) -> bool
     requires { ⌜ Sized low (now rack) ⌝ }
-    requires { ⌜ r ≤ low .levels ⌝ }
-    ensures { λ a. ⌜ Says a (RankedBelow low (now (rack .entry)) r (low .most)) ⌝ }
-{
-    let mut k = 0;
-    while 64 * k < layout::shape::MOST {
-        if !ranked_word(rack, r, k) {
-            return false;
-        }
-        k += 1;
-    }
-    true
-}
-
-// Whether those in any roster have its rank.
-fn all_ranked(rack: &[u8]) -> bool
-    requires { ⌜ Sized low (now rack) ⌝ }
-    ensures { λ a. ⌜ Says a ((r : ℕ) → r ≤ low .levels → RankedBelow low (now (rack .entry)) r (low .most)) ⌝ }
+    requires { ⌜ 64 * k < low .most ⌝ }
+    requires { ⌜ AllRankedBelow low (now rack) (64 * k) ⌝ }
+    ensures { λ a. ⌜ Says a (AllRankedBelow low (now (rack .entry)) (64 * k + 64)) ⌝ }
 {
     let mut r = 0;
     while r <= layout::shape::LEVELS {
-        if !ranked(rack, r) {
+        if !ranked_word(rack, r, k) {
             return false;
         }
         r += 1;
@@ -73,19 +57,21 @@ fn listed(rack: &[u8], k: usize) -> u64
     x
 }
 
-// Whether the rosters together are the vertices below n.
-fn complete(rack: &[u8], n: usize) -> bool
+// Whether the rosters of a rack of n vertices are right in word k, as in the words before it. Where none is listed, no rank is to be looked up.
+fn right_word(rack: &[u8], n: usize, k: usize) -> bool
     requires { ⌜ Sized low (now rack) ⌝ }
-    ensures { λ a. ⌜ Says a ((v : ℕ) → v < low .most → listedIn low (now (rack .entry)) (suc (low .levels)) v ≡ ltb v n) ⌝ }
+    requires { ⌜ 64 * k < low .most ⌝ }
+    requires { ⌜ RostersBelow low (now rack) n (64 * k) ⌝ }
+    ensures { λ a. ⌜ Says a (RostersBelow low (now (rack .entry)) n (64 * k + 64)) ⌝ }
 {
-    let mut j = 0;
-    while 64 * j < layout::shape::MOST {
-        if listed(rack, j) != layout::words::below(n, j) {
-            return false;
-        }
-        j += 1;
+    let x = listed(rack, k);
+    if x != layout::words::below(n, k) {
+        return false;
     }
-    true
+    if x == 0 {
+        return true;
+    }
+    ranked_words(rack, k)
 }
 
 // Whether the rosters of a rack of n vertices are right.
@@ -93,8 +79,12 @@ pub fn all(rack: &[u8], n: usize) -> bool
     requires { ⌜ Sized low (now rack) ⌝ }
     ensures { λ a. ⌜ Says a (Rosters low (now (rack .entry)) n) ⌝ }
 {
-    if !complete(rack, n) {
-        return false;
+    let mut k = 0;
+    while 64 * k < layout::shape::MOST {
+        if !right_word(rack, n, k) {
+            return false;
+        }
+        k += 1;
     }
-    all_ranked(rack)
+    true
 }

@@ -5,7 +5,7 @@ ghost use lib.Dec.{T};
 ghost use lib.ListN.{length, getD};
 ghost use Rattle.model.specs.Shape.{low};
 ghost use Rattle.model.specs.State.{base};
-ghost use Rattle.model.specs.Bytes.{rankAt, ownsAt};
+ghost use Rattle.model.specs.Bytes.{rankAt};
 ghost use Rattle.model.proofs.Facts.{Says};
 ghost use Rattle.layout.specs.Setters.{Sized};
 ghost use Rattle.audit.specs.Tally.{tallied, Holds, Added};
@@ -63,20 +63,18 @@ fn walk_word(rack: &[u8], tally: &mut [u16], v: usize, r: usize, k: usize) -> bo
     true
 }
 
-// Walks row v, of rank r below the top, of a rack of n vertices.
-fn walk_row(rack: &[u8], tally: &mut [u16], v: usize, r: usize, n: usize) -> bool
+// Walks row v, of rank r below the top: all its words, since a loop with a fixed number of turns is written out by the compiler.
+fn walk_row(rack: &[u8], tally: &mut [u16], v: usize, r: usize) -> bool
     requires { ⌜ Sized low (now rack) ⌝ }
-    requires { ⌜ n ≤ low .most ⌝ }
-    requires { ⌜ v < n ⌝ }
+    requires { ⌜ v < low .most ⌝ }
     requires { ⌜ r ≡ rankAt (now rack) v ⌝ }
     requires { ⌜ r < low .levels ⌝ }
-    requires { ⌜ ((w : ℕ) → w < low .most → n ≤ w → T (ownsAt low (now rack) v w) → ⊥) ⌝ }
     requires { ⌜ Holds low (now tally) (tallied low (now rack) v) ⌝ }
-    ensures { λ a. ⌜ Says a (RightBelow low (now (rack .entry)) v n) ⌝ }
+    ensures { λ a. ⌜ Says a (RightBelow low (now (rack .entry)) v (low .most)) ⌝ }
     ensures { λ a. ⌜ (T a → Holds low (now (tally .exit)) (tallied low (now (rack .entry)) (v + 1))) ⌝ }
 {
     let mut k = 0;
-    while 64 * k < n {
+    while 64 * k < layout::shape::MOST {
         if !walk_word(rack, &mut *tally, v, r, k) {
             return false;
         }
@@ -120,7 +118,7 @@ fn once_row(rack: &[u8], v: usize) -> bool
     true
 }
 
-// Whether row v of a rack of n vertices is right, with the rows before it in the tally. An empty row is, and adds nothing.
+// Whether row v of a rack of n vertices is right, with the rows before it in the tally.
 fn row(rack: &[u8], tally: &mut [u16], v: usize, n: usize) -> bool
     requires { ⌜ Sized low (now rack) ⌝ }
     requires { ⌜ n ≤ low .most ⌝ }
@@ -129,15 +127,12 @@ fn row(rack: &[u8], tally: &mut [u16], v: usize, n: usize) -> bool
     ensures { λ a. ⌜ Says a (Row low (now (rack .entry)) n v) ⌝ }
     ensures { λ a. ⌜ (T a → Holds low (now (tally .exit)) (tallied low (now (rack .entry)) (v + 1))) ⌝ }
 {
-    if layout::words::is_empty(rack, v) {
-        return true;
-    }
-    if !layout::owns_none_from(rack, v, n) {
+    if !layout::words::owns_none_from(rack, v, n) {
         return false;
     }
     let r = layout::rank(rack, v) as usize;
     if r <= layout::top() {
-        return walk_row(rack, &mut *tally, v, r, n);
+        return walk_row(rack, &mut *tally, v, r);
     }
     once_row(rack, v)
 }

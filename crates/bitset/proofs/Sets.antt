@@ -1,8 +1,8 @@
 -- Words of 64 places as sets: what is in both, in either, or in one and not the other; the first m places; and words with the same places.
 -- Assumes nothing.
 use mathlib.Core.Path.{_≡_, refl, sym, ap, ap₂, subst, _∙_}
-use mathlib.Core.Logic.{_⊎_, inl, inr}
-use mathlib.Core.Bool.{Bool, true, false, not, _&&_, _||_}
+use mathlib.Core.Logic.{inl, inr}
+use mathlib.Core.Bool.{Bool, true, not, _&&_, _||_}
 use Prim.Native.Nat.{ℕ, zero, suc, _+_, _-_, _*_, _/_, _%_, _^_, _≤_, _<_}
 use native.Mathlib.Nat.{pow-suc}
 use native.Mathlib.Omega.{arith}
@@ -10,9 +10,9 @@ use lib.Dec.{T, eqb, ltb, ltb→lt, lt→ltb}
 use lib.Bits.{bitAnd, bitOr, bitXor, and-le-l, and-le-r, or-add-and, or-lt, xor-lt, xor-shr, xor-mod}
 use lib.Pow.{pow-pos, pow-mono}
 use Rattle.model.specs.Parts.{bitOf}
-use Rattle.model.proofs.Tests.{le?, T-true, T-false}
+use Rattle.model.proofs.Tests.{le?, T-true, T-false, bool-ext, and-intro, and-left, and-right}
 use Rattle.bitset.specs.Words.{Rest, Got}
-use Rattle.bitset.proofs.Digits.{digit, digit-lt, digit-or, digit-and, bitOf-digit, digit-bitOf, digits-ext, set-small}
+use Rattle.bitset.proofs.Digits.{digit, digit-lt, digit-or, digit-and, bitOf-digit, digits-ext, set-small}
 use Rattle.bitset.proofs.Words.{digit-zero, rest-end, got-none, got-more}
 
 -- ---- bit by bit
@@ -85,6 +85,14 @@ module _ {p q : ℕ → Bool} {x y : ℕ} (a : Rest p 0 x) (b : Rest q 0 y) wher
           unfold bitOf digit in λ e.
           two-digits (λ d c. eqb d 1 ≡ eqb c 1 → d ≡ c) (λ _. refl) (λ q. cc) (λ q. cc) (λ _. refl) (digit x j) (digit y j) (digit-lt x j) (digit-lt y j) e
 
+module _ {p q : ℕ → Bool} {x y : ℕ} (a : Rest p 0 x) (b : Rest q 0 y) where
+  -- the places of one are among those of the other exactly if what both have is all of it
+  pub among-fact : bitAnd x y ≡ x → (j : ℕ) → j < 64 → T (p j) → T (q j)
+  among-fact e j l t = and-right (p j) (q j) (subst T (sym (same-places (rest-and a b) a e j l)) t)
+
+  pub among-test : ((j : ℕ) → j < 64 → T (p j) → T (q j)) → bitAnd x y ≡ x
+  among-test h = places-same (rest-and a b) a (λ j l. bool-ext (p j && q j) (p j) (and-left (p j) (q j)) (λ t. and-intro (p j) (q j) t (h j l t)))
+
 -- the same places
 pub rest-ext : {p q : ℕ → Bool} {x : ℕ} → Rest p 0 x → ((j : ℕ) → j < 64 → p j ≡ q j) → Rest q 0 x
 rest-ext r h = record { fits = r .fits; none = r .none; same = λ j a l. r .same j a l ∙ h j l }
@@ -99,32 +107,32 @@ none-rest p h = record {
 
 -- ---- the words of a row, gathered in one
 
--- x is empty exactly if no place below 64 k passes p
-pub record Merged (p : ℕ → Bool) (k x : ℕ) : Type 0 where
-  pub fact : x ≡ 0 → (w : ℕ) → w < 64 * k → T (p w) → ⊥
-  pub test : ((w : ℕ) → w < 64 * k → T (p w) → ⊥) → x ≡ 0
+-- x is empty exactly if no place from `from` to 64 k passes p
+pub record Merged (p : ℕ → Bool) (from k x : ℕ) : Type 0 where
+  pub fact : x ≡ 0 → (w : ℕ) → from ≤ w → w < 64 * k → T (p w) → ⊥
+  pub test : ((w : ℕ) → from ≤ w → w < 64 * k → T (p w) → ⊥) → x ≡ 0
 
-pub merged-none : (p : ℕ → Bool) → Merged p 0 0
-merged-none p = record { fact = λ e w l. absurd (omega arith); test = λ h. refl }
+pub merged-none : (p : ℕ → Bool) (k : ℕ) → Merged p (64 * k) k 0
+merged-none p k = record { fact = λ e w a l. absurd (omega arith); test = λ h. refl }
 
 -- a word more
-pub merged-more : (p : ℕ → Bool) (k x y : ℕ) → Merged p k x → Rest (λ j. p (64 * k + j)) 0 y → Merged p (k + 1) (bitOr x y)
-merged-more p k x y m r =
+pub merged-more : (p : ℕ → Bool) (from k x y : ℕ) → from ≤ 64 * k → Merged p from k x → Rest (λ j. p (64 * k + j)) 0 y → Merged p from (k + 1) (bitOr x y)
+merged-more p from k x y f m r =
     let sum : bitOr x y + bitAnd x y ≡ x + y = or-add-and x y in
     record {
-      fact = λ e w l t.
+      fact = λ e w b l t.
           let none-x : x ≡ 0 = omega (arith, sum, and-le-r x y) in
           let none-y : y ≡ 0 = omega (arith, sum, and-le-l x y) in
           elim (le? (64 * k) w) [
             | inl a ↦
                 let at : 64 * k + (w - 64 * k) ≡ w = omega arith in
                 rest-end r none-y (w - 64 * k) (omega arith) (omega arith) (subst (λ (i : ℕ). T (p i)) (sym at) t)
-            | inr a ↦ m .fact none-x w a t
+            | inr a ↦ m .fact none-x w b a t
           ];
       test = λ h.
           let none-y : y ≡ 0 =
-          places-same r (none-rest (λ j. p (64 * k + j)) (λ j l. h (64 * k + j) (omega arith))) (λ j l. refl) in
-          omega (arith, sum, m .test (λ w l. h w (omega arith)), none-y);
+          places-same r (none-rest (λ j. p (64 * k + j)) (λ j l. h (64 * k + j) (omega arith) (omega arith))) (λ j l. refl) in
+          omega (arith, sum, m .test (λ w b l. h w b (omega arith)), none-y);
     }
 
 -- ---- the first places

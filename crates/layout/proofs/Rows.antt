@@ -12,10 +12,10 @@ use Rattle.model.specs.Shape.{Shape, GoodShape, rowsFrom}
 use Rattle.model.specs.Bytes.{inRow, ownsAt}
 use Rattle.model.specs.Parts.{bitOf}
 use Rattle.model.proofs.Prefix.{count-add, count-ext}
-use Rattle.bitset.specs.Row.{member, size, Nth, Next}
+use Rattle.bitset.specs.Row.{member, size, Nth}
 use Rattle.bitset.proofs.Laws.{member-part}
 use Rattle.layout.specs.Setters.{Sized, NumberAt, placeIn, rowPlace}
-use Rattle.layout.specs.Rows.{degreeAt, NthOwned, NextOwned}
+use Rattle.layout.specs.Rows.{degreeAt, NthOwned}
 
 -- a bit of row v of those that stand from byte `from` on, as a place of the whole buffer
 pub row-place : (S : Shape) (bs : List ℕ) (from v w : ℕ) → member bs (placeIn S from v w) ≡ inRow S bs from v w
@@ -80,11 +80,3 @@ module _ {S : Shape} (good : GoodShape S) (bs : List ℕ) {v at : ℕ} (sized : 
   row-nth k r n =
       let i : r < S .most = omega (arith, n .inside, row-places) in
       record { inside = i; is = subst T (row-owns r i) (n .is); before = sym (count-row r (omega arith)) ∙ n .before }
-
-  pub row-next : (from r : ℕ) → Next (rowOf S bs at) from r → NextOwned S bs v from r
-  row-next from r n = record {
-    after = n .after;
-    within = omega (arith, n .within, row-places);
-    none = λ w a b t. n .none w a b (subst T (sym (row-owns w (omega (arith, n .within, row-places)))) t);
-    is = λ h. subst T (row-owns r h) (n .is (omega (arith, row-places)));
-  }

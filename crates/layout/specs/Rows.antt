@@ -1,4 +1,4 @@
--- What is asked of a vertex's row: how many edges it owns, the k-th of them, and the first from a vertex on. Assumes nothing.
+-- What is asked of a vertex's row: how many edges it owns, the k-th of them, and whether there is one from a vertex on. Assumes nothing.
 use mathlib.Core.Path.{_≡_}
 use mathlib.Core.List.{List}
 use Prim.Native.Nat.{ℕ, _≤_, _<_}
@@ -17,9 +17,6 @@ pub record NthOwned (S : Shape) (bs : List ℕ) (v k r : ℕ) : Type 0 where
   pub is : T (ownsAt S bs v r)
   pub before : count (ownsAt S bs v) r ≡ k
 
--- r is the first vertex from `from` on to which v owns an edge, or `most` where there is none
-pub record NextOwned (S : Shape) (bs : List ℕ) (v from r : ℕ) : Type 0 where
-  pub after : from ≤ r
-  pub within : r ≤ S .most
-  pub none : (w : ℕ) → from ≤ w → w < r → T (ownsAt S bs v w) → ⊥
-  pub is : r < S .most → T (ownsAt S bs v r)
+-- v owns no edge to a vertex from n on
+abbrev pub OwnsNoneFrom : Shape → List ℕ → ℕ → ℕ → Type 0
+OwnsNoneFrom S bs v n = (w : ℕ) → w < S .most → n ≤ w → T (ownsAt S bs v w) → ⊥

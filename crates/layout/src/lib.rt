@@ -2,8 +2,7 @@
 // size of the rack is written. The contracts cite the reading of the bytes in `model` and specs/; callers use the laws of proofs/.
 ghost use mathlib.Core.Path.{_≡_};
 ghost use mathlib.Core.Bool.{_||_};
-ghost use Prim.Native.Nat.{ℕ, _<_, _≤_, _+_, _*_};
-ghost use lib.Dec.{T};
+ghost use Prim.Native.Nat.{_<_, _≤_, _+_, _*_};
 ghost use lib.ListN.{length, replicate};
 ghost use Rattle.model.specs.Shape.{low, rackLength};
 ghost use Rattle.model.specs.State.{base, lowKind, empty};
@@ -11,9 +10,8 @@ ghost use Rattle.model.specs.Counting.{sum, count};
 ghost use Rattle.bitset.specs.Row.{member};
 ghost use Rattle.model.specs.Bytes.{sizeAt, edgesAt, rankAt, mateAt, phiAt, ownsAt, write};
 ghost use Rattle.model.specs.Calls.{sized as sizedOf};
-ghost use Rattle.model.proofs.Facts.{Says};
 ghost use Rattle.layout.specs.Setters.{Sized, setEdges, setRank, setMate, setPhi, own as owned, disown as disowned, blanked, enrolled};
-ghost use Rattle.layout.specs.Rows.{degreeAt, NthOwned, NextOwned};
+ghost use Rattle.layout.specs.Rows.{degreeAt, NthOwned};
 
 pub mod rosters;
 pub mod shape;
@@ -223,27 +221,6 @@ pub fn nth_owned(rack: &[u8], v: usize, k: usize) -> usize
 {
     let at = shape::row_at(v);
     bitset::nth(&rack[at..at + shape::ROW], k)
-}
-
-// The first vertex from `from` on to which v owns an edge, or `most` where there is none.
-fn next_owned(rack: &[u8], v: usize, from: usize) -> usize
-    requires { ⌜ Sized low (now rack) ⌝ }
-    requires { ⌜ v < low .most ⌝ }
-    requires { ⌜ from ≤ low .most ⌝ }
-    ensures { λ r. ⌜ NextOwned low (now (rack .entry)) v from r ⌝ }
-{
-    let at = shape::row_at(v);
-    bitset::next(&rack[at..at + shape::ROW], from)
-}
-
-// Whether v owns no edge to a vertex from `from` on.
-pub fn owns_none_from(rack: &[u8], v: usize, from: usize) -> bool
-    requires { ⌜ Sized low (now rack) ⌝ }
-    requires { ⌜ v < low .most ⌝ }
-    requires { ⌜ from ≤ low .most ⌝ }
-    ensures { λ r. ⌜ Says r ((w : ℕ) → w < low .most → from ≤ w → T (ownsAt low (now (rack .entry)) v w) → ⊥) ⌝ }
-{
-    next_owned(rack, v, from) == shape::MOST
 }
 
 // How many edges the vertices below n own together. Their rows stand one after the other, so that they are counted as one.

@@ -1,12 +1,13 @@
 // Whole words of a vertex's row: 64 places at once.
 ghost use mathlib.Core.Path.{_≡_};
-ghost use Prim.Native.Nat.{ℕ, _+_, _<_, _*_};
-ghost use lib.Dec.{T, ltb};
+ghost use Prim.Native.Nat.{_+_, _<_, _≤_, _*_};
+ghost use lib.Dec.{ltb};
 ghost use Rattle.model.specs.Shape.{low};
 ghost use Rattle.model.specs.Bytes.{ownsAt};
 ghost use Rattle.model.proofs.Facts.{Says};
 ghost use Rattle.bitset.specs.Words.{Rest};
 ghost use Rattle.layout.specs.Setters.{Sized, setWord};
+ghost use Rattle.layout.specs.Rows.{OwnsNoneFrom};
 use crate::shape;
 
 // 64 places of the row of v, from 64 k on, as one word.
@@ -40,17 +41,36 @@ pub fn below(n: usize, k: usize) -> u64
     bitset::first_places(n - 64 * k)
 }
 
-// Whether the row of v is empty.
-pub fn is_empty(rack: &[u8], v: usize) -> bool
+// Whether the row of v is empty from word `from` on.
+fn empty_from(rack: &[u8], v: usize, from: usize) -> bool
     requires { ⌜ Sized low (now rack) ⌝ }
     requires { ⌜ v < low .most ⌝ }
-    ensures { λ r. ⌜ Says r ((w : ℕ) → w < low .most → T (ownsAt low (now (rack .entry)) v w) → ⊥) ⌝ }
+    requires { ⌜ 64 * from ≤ low .most ⌝ }
+    ensures { λ r. ⌜ Says r (OwnsNoneFrom low (now (rack .entry)) v (64 * from)) ⌝ }
 {
     let mut all: u64 = 0;
-    let mut k = 0;
+    let mut k = from;
     while 64 * k < shape::MOST {
         all = all | word(rack, v, k);
         k += 1;
     }
     all == 0
+}
+
+// Whether v owns no edge to a vertex from n on: neither in the word in which n stands nor in those after it.
+pub fn owns_none_from(rack: &[u8], v: usize, n: usize) -> bool
+    requires { ⌜ Sized low (now rack) ⌝ }
+    requires { ⌜ v < low .most ⌝ }
+    requires { ⌜ n ≤ low .most ⌝ }
+    ensures { λ r. ⌜ Says r (OwnsNoneFrom low (now (rack .entry)) v n) ⌝ }
+{
+    let k = n / 64;
+    if shape::MOST <= 64 * k {
+        return true;
+    }
+    let x = word(rack, v, k);
+    if x & below(n, k) != x {
+        return false;
+    }
+    empty_from(rack, v, k + 1)
 }

@@ -1,23 +1,61 @@
--- `audit::rosters::all` meets its contract. Assumes nothing.
+-- `audit::rosters::all` meets its contract. The loop's invariant: the rosters are right as far as word k. Assumes nothing.
+use Prim.Native.Nat.{_-_, _*_, _≤_}
+use native.Mathlib.Omega.{arith}
 use borrow.Author.Tests.{not-true, not-false}
-use Rattle.layout.proofs.Said.{said, unsaid, says-no, says-by}
+use Rattle.model.specs.Shape.{low}
+use Rattle.layout.proofs.Said.{said, unsaid, says-yes, says-no}
+use Rattle.audit.specs.Parts.{RostersBelow}
+use Rattle.audit.proofs.Enrolled.{rosters-less}
 use borrow.Author.Needs.{needs}
 use Rattle.audit.proofs.rosters.all.Statement.{statement}
 use Rattle.audit.proofs.rosters.all.Tie as tie
 
-complete-requires : tie.Need-complete-requires
-complete-requires c κs = search needs
+abbrev Inv-loop : tie.InvT-loop
+Inv-loop rack n k₀ k = (64 * k ≤ low .most) × RostersBelow low rack n (64 * k)
 
-returns : tie.Need-returns
-returns c = says-no (λ g. unsaid (c .before .complete .ensures) (not-true _ (c .if1 .taken)) (g .together))
+abbrev μ-loop : tie.MeasureT-loop
+μ-loop rack n k₀ k = low .most - 64 * k
 
-all-ranked-requires : tie.Need-all-ranked-requires
-all-ranked-requires c κs = search needs
+loop-holds : tie.Need-loop-holds Inv-loop μ-loop
+loop-holds c = (omega arith, record { ranked = λ r l v h. absurd (omega arith); together = λ v h. absurd (omega arith) })
 
-returns-2 : tie.Need-returns-2
-returns-2 c =
-    let together = said (c .before .before .complete .ensures) (not-false _ (c .before .if1 .left)) in
-    says-by (λ g. record { ranked = g; together = together }) (λ g. g .ranked) (c .all-ranked .ensures)
+mul-loop : tie.Need-mul-loop Inv-loop μ-loop
+mul-loop c = search needs
+
+right-word-requires : tie.Need-right-word-requires Inv-loop μ-loop
+right-word-requires c κs =
+    (c .before .before .before .pre, (omega (arith, c .loop-test .taken), c .before .loop .inv .1))
+
+returns : tie.Need-returns Inv-loop μ-loop
+returns c =
+    says-no (λ g. unsaid (c .before .right-word .ensures) (not-true _ (c .if1 .taken)) (rosters-less (omega (arith, c .before .before .loop-test .taken)) g))
+
+add-k : tie.Need-add-k Inv-loop μ-loop
+add-k c = search needs
+
+loop-less : tie.Need-loop-less Inv-loop μ-loop
+loop-less c = search needs
+
+loop-again : tie.Need-loop-again Inv-loop μ-loop
+loop-again c = (
+  omega (arith, c .before .before .loop-test .taken),
+  rosters-less (omega arith) (said (c .before .right-word .ensures) (not-false _ (c .if1 .left))),
+)
+
+returns-2 : tie.Need-returns-2 Inv-loop μ-loop
+returns-2 c = says-yes (rosters-less (omega (arith, c .loop-test .left)) (c .before .loop .inv .1))
 
 pub all-spec : {M : Type 1} → statement M
-all-spec = tie.close (tie.spec complete-requires returns all-ranked-requires returns-2)
+all-spec =
+    tie.close
+    (tie.spec
+    Inv-loop
+    μ-loop
+    loop-holds
+    mul-loop
+    right-word-requires
+    returns
+    add-k
+    loop-less
+    loop-again
+    returns-2)

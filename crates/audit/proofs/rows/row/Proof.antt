@@ -5,30 +5,17 @@ use borrow.Author.Tests.{not-true, not-false}
 use Rattle.model.specs.Shape.{low}
 use Rattle.model.specs.State.{base}
 use Rattle.model.specs.Bytes.{rankAt}
-use Rattle.model.proofs.Shapes.{low-good}
-use Rattle.layout.proofs.Said.{said, unsaid, says-yes, says-no, says-by}
-use Rattle.audit.proofs.Walk.{empty-row, empty-adds-none, top-adds-none}
+use Rattle.layout.proofs.Said.{said, unsaid, says-no, says-by}
+use Rattle.audit.proofs.Walk.{top-adds-none}
 use borrow.Author.Needs.{needs}
 use Rattle.audit.proofs.rows.row.Statement.{statement}
 use Rattle.audit.proofs.rows.row.Tie as tie
 
-is-empty-requires : tie.Need-is-empty-requires
-is-empty-requires c κs = search needs
-
-returns : tie.Need-returns
-returns c =
-    let s = c .before .before .before .before in
-    let bs = s .args .rack .now in
-    let none = said (c .before .is-empty .ensures) (c .if1 .taken) in (
-      says-yes (empty-row low-good bs (s .args .n) (s .args .v) (s .pre .1 .0) (omega arith) none),
-      λ _. empty-adds-none low bs (s .args .tally .now) (s .args .v) none (s .pre .1 .1 .1),
-    )
-
 owns-none-from-requires : tie.Need-owns-none-from-requires
 owns-none-from-requires c κs = search needs
 
-returns-2 : tie.Need-returns-2
-returns-2 c = (says-no (λ g. unsaid (c .before .owns-none-from .ensures) (not-true _ (c .if2 .taken)) (g .within)), λ z. absurd z)
+returns : tie.Need-returns
+returns c = (says-no (λ g. unsaid (c .before .owns-none-from .ensures) (not-true _ (c .if1 .taken)) (g .within)), λ z. absurd z)
 
 rank-requires : tie.Need-rank-requires
 rank-requires c κs = search needs
@@ -42,38 +29,24 @@ top-requires c κs = search needs
 walk-row-requires : tie.Need-walk-row-requires
 unfolding base
 walk-row-requires c κs =
-    let none = c .before .before .before .before in
-    let s = none .before .before .before .before .before .before in (
-      s .pre .0,
-      (
-        s .pre .1 .0,
-        (
-          s .pre .1 .1 .0 .0,
-          (
-            c .before .before .before .rank .ensures,
-            (
-              omega (arith, c .before .if3 .taken, c .before .before .top .ensures),
-              (said (none .before .owns-none-from .ensures) (not-false _ (none .if2 .left)), s .pre .1 .1 .1),
-            ),
-          ),
-        ),
-      ),
-    )
+    let s = c .before .before .before .before .before .before .before .before in
+    let under = c .before .if2 .taken in
+    (s .pre .0, (omega arith, (c .before .before .before .rank .ensures, (omega (arith, under, c .before .before .top .ensures), s .pre .1 .1 .1))))
 
 same-length : tie.Need-same-length
 same-length c = c .before .before .walk-row .kept .1 .0
 
-returns-3 : tie.Need-returns-3
-returns-3 c =
+returns-2 : tie.Need-returns-2
+returns-2 c =
     let w = c .before .before in
     let t = w .before .before in
     let none = t .before .before .before in
-    let s = none .before .before .before .before .before .before in
+    let s = none .before .before .before .before in
     let under : rankAt (s .args .rack .now) (s .args .v) ≤ base .top =
-    omega (arith, t .if3 .taken, t .before .top .ensures, t .before .before .rank .ensures) in (
+    omega (arith, t .if2 .taken, t .before .top .ensures, t .before .before .rank .ensures) in (
       says-by
           (λ g. record {
-            within = said (none .before .owns-none-from .ensures) (not-false _ (none .if2 .left));
+            within = said (none .before .owns-none-from .ensures) (not-false _ (none .if1 .left));
             below = λ _. g;
             top = λ h. absurd (omega arith);
           })
@@ -84,17 +57,17 @@ returns-3 c =
 once-row-requires : tie.Need-once-row-requires
 once-row-requires c κs = search needs
 
-returns-4 : tie.Need-returns-4
+returns-3 : tie.Need-returns-3
 unfolding base
-returns-4 c =
+returns-3 c =
     let t = c .before in
     let none = t .before .before .before in
-    let s = none .before .before .before .before .before .before in
+    let s = none .before .before .before .before in
     let bs = s .args .rack .now in
-    let high : base .top < rankAt bs (s .args .v) = omega (arith, t .if3 .left, t .before .top .ensures, t .before .before .rank .ensures) in (
+    let high : base .top < rankAt bs (s .args .v) = omega (arith, t .if2 .left, t .before .top .ensures, t .before .before .rank .ensures) in (
       says-by
           (λ g. record {
-            within = said (none .before .owns-none-from .ensures) (not-false _ (none .if2 .left));
+            within = said (none .before .owns-none-from .ensures) (not-false _ (none .if1 .left));
             below = λ h. absurd (omega arith);
             top = λ _. g;
           })
@@ -106,15 +79,13 @@ pub row-spec : {M : Type 1} → statement M
 row-spec =
     tie.close
     (tie.spec
-    is-empty-requires
-    returns
     owns-none-from-requires
-    returns-2
+    returns
     rank-requires
     cast-r
     top-requires
     walk-row-requires
     same-length
-    returns-3
+    returns-2
     once-row-requires
-    returns-4)
+    returns-3)

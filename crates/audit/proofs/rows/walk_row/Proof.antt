@@ -8,21 +8,21 @@ use Rattle.model.specs.Shape.{low}
 use Rattle.model.proofs.Tests.{true-T}
 use Rattle.layout.proofs.Said.{unsaid, says-yes, says-no}
 use Rattle.audit.specs.Parts.{Walked}
-use Rattle.audit.proofs.Walk.{walked-start, walked-end, right-past}
+use Rattle.audit.proofs.Walk.{walked-start, walked-end}
 use borrow.Author.Needs.{needs}
 use Rattle.audit.proofs.rows.walk_row.Statement.{statement}
 use Rattle.audit.proofs.rows.walk_row.Tie as tie
 
 abbrev Inv-loop : tie.InvT-loop
-Inv-loop rack tally₀ v r n k₀ tally k = (64 * k ≤ low .most) × ((length tally ≡ length tally₀) × Walked low rack tally v (64 * k))
+Inv-loop rack tally₀ v r k₀ tally k = (64 * k ≤ low .most) × ((length tally ≡ length tally₀) × Walked low rack tally v (64 * k))
 
 abbrev μ-loop : tie.MeasureT-loop
-μ-loop rack tally₀ v r n k₀ tally k = n - 64 * k
+μ-loop rack tally₀ v r k₀ tally k = low .most - 64 * k
 
 loop-holds : tie.Need-loop-holds Inv-loop μ-loop
 loop-holds c =
     let s = c .before .before in
-    (omega arith, (refl, walked-start low (s .args .rack .now) (s .args .tally .now) (s .args .v) (s .pre .1 .1 .1 .1 .1 .1)))
+    (omega arith, (refl, walked-start low (s .args .rack .now) (s .args .tally .now) (s .args .v) (s .pre .1 .1 .1 .1)))
 
 mul-loop : tie.Need-mul-loop Inv-loop μ-loop
 mul-loop c = record { fits = omega (arith, c .loop .inv .0) }
@@ -30,8 +30,8 @@ mul-loop c = record { fits = omega (arith, c .loop .inv .0) }
 walk-word-requires : tie.Need-walk-word-requires Inv-loop μ-loop
 walk-word-requires c κs =
     let s = c .before .before .before .before .before in
-    let p = s .pre .1 .1 in
-    (s .pre .0, (omega arith, (p .1 .0, (p .1 .1 .0, (omega (arith, c .before .loop-test .taken), c .before .before .loop .inv .1 .1)))))
+    let p = s .pre .1 in
+    (s .pre .0, (p .0, (p .1 .0, (p .1 .1 .0, (omega (arith, c .before .loop-test .taken), c .before .before .loop .inv .1 .1)))))
 
 same-length : tie.Need-same-length Inv-loop μ-loop
 same-length c =
@@ -40,11 +40,8 @@ same-length c =
 
 returns : tie.Need-returns Inv-loop μ-loop
 returns c =
-    let w = c .before .before .before in
-    let l = w .before .before .before .loop in
-    let s = w .before .before .before .before .before .before in (
-      says-no (λ g. unsaid (w .walk-word .ensures .0) (not-true _ (c .if1 .taken))
-          (right-past low (s .args .rack .now) (l .tally) (s .args .v) (s .args .n) (64 * l .k + 64) (omega (arith, w .before .before .loop-test .taken)) (s .pre .1 .1 .1 .1 .1 .0) g)),
+    let w = c .before .before .before in (
+      says-no (λ g. unsaid (w .walk-word .ensures .0) (not-true _ (c .if1 .taken)) (λ x h o. g x (omega (arith, w .before .before .loop-test .taken)) o)),
       λ z. absurd z,
     )
 
@@ -75,11 +72,9 @@ returns-2 : tie.Need-returns-2 Inv-loop μ-loop
 returns-2 c =
     let s = c .before .before .before .before in
     let l = c .before .loop in
-    let walked = l .inv .1 .1 in
-    let past : s .args .n ≤ 64 * l .k = omega (arith, c .loop-test .left) in (
-      says-yes (λ x h o. walked .right x (omega arith) o),
-      λ _. walked-end low (s .args .rack .now) (l .tally) (s .args .v) (64 * l .k) (l .inv .0) (λ j a b. s .pre .1 .1 .1 .1 .1 .0 j a (omega arith)) walked,
-    )
+    let e : 64 * l .k ≡ low .most = omega (arith, c .loop-test .left, l .inv .0) in
+    let walked = subst (Walked low (s .args .rack .now) (l .tally) (s .args .v)) e (l .inv .1 .1) in
+    (says-yes (walked .right), λ _. walked-end low (s .args .rack .now) (l .tally) (s .args .v) walked)
 
 pub walk-row-spec : {M : Type 1} → statement M
 walk-row-spec =
