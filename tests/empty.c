@@ -36,7 +36,8 @@ static void refused(uint32_t number, uint32_t wanted, uint64_t figure)
 
 static void change(uint8_t *bytes, size_t len, const uint32_t *words, size_t count, uint32_t wanted)
 {
-    uint32_t draws = UNWRITTEN, falls = UNWRITTEN, pairs = UNWRITTEN;
+    uint64_t draws = UINT64_MAX;
+    uint32_t falls = UNWRITTEN, pairs = UNWRITTEN;
     uint32_t number = pairing_change(bytes, len, PAIRING_DROP, 0, 1, words, count, &draws, &falls, &pairs);
 
     same("draws", draws, 0);
@@ -102,7 +103,8 @@ int main(void)
 {
     const uintptr_t pointers[] = {0, 1, UINTPTR_MAX / 2, UINTPTR_MAX};
     const uint32_t words[] = {0, 0};
-    uint32_t draws, falls, pairs;
+    uint64_t draws;
+    uint32_t falls, pairs;
     size_t k;
 
     same("make", pairing_make(rack, sizeof rack, 4), PAIRING_OK);

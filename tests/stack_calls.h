@@ -23,7 +23,8 @@ static uint32_t words[MOST / 2];
 static size_t len, text_len, space_len, count;
 static uint32_t n, code, a, b;
 static int32_t at_level;
-static uint32_t number, yes, mate, linked, standing, draws, falls, pairs;
+static uint32_t number, yes, mate, linked, standing, falls, pairs;
+static uint64_t draws;
 static int32_t level;
 static size_t line, length;
 

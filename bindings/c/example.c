@@ -28,12 +28,13 @@ static const char trace[] =
 static void change(uint32_t code, uint32_t a, uint32_t b)
 {
     const uint32_t words[] = {0, 0};
-    uint32_t draws, falls, pairs;
+    uint64_t draws;
+    uint32_t falls, pairs;
     uint32_t number = pairing_change(rack, sizeof rack, code, a, b, words, 2, &draws, &falls, &pairs);
 
     printf("%s %" PRIu32 "-%" PRIu32 ": ", code == PAIRING_ADD ? "add" : "drop", a, b);
     if (number == PAIRING_OK)
-        printf("draws %" PRIu32 ", falls %" PRIu32 ", pairs %" PRIu32 "\n", draws, falls, pairs);
+        printf("draws %" PRIu64 ", falls %" PRIu32 ", pairs %" PRIu32 "\n", draws, falls, pairs);
     else
         printf("refused %" PRIu32 "\n", number);
 }

@@ -63,7 +63,7 @@ extern "C" {
 #define PAIRING_SAME_VERTEX 9      /* The two vertices named are the same. */
 #define PAIRING_EDGE_PRESENT 10    /* An edge to add is there already. */
 #define PAIRING_EDGE_ABSENT 11     /* An edge to drop isn't there. */
-#define PAIRING_TOO_FEW_WORDS 12   /* Fewer words are lent than n div 2. */
+#define PAIRING_TOO_FEW_WORDS 12   /* The change runs out of words: it needs more than are lent. */
 
 /*
  * Makes the buffer a rack of n vertices without edges. Its bytes may hold anything before.
@@ -102,11 +102,13 @@ uint32_t pairing_linked(const uint8_t *rack, size_t len, uint32_t v, uint32_t w,
 uint32_t pairing_roster(const uint8_t *rack, size_t len, int32_t level, uint32_t *count);
 
 /*
- * Adds (code 1) or drops (code 2) the edge a-b and mends the matching. The words decide which neighbours are drawn; at least n div 2 of them
- * must be lent, of which the first *draws are used. *falls is the number of moves down by one level, *pairs the number of pairs then held.
+ * Adds (code 1) or drops (code 2) the edge a-b and mends the matching. The words decide which neighbours are drawn: of k neighbours, a word
+ * below the largest multiple of k that is at most 2^32 chooses the one at place word mod k, and any other word is passed over. The first *draws
+ * words are used, those passed over among them: a figure of 64 bits, since no call limits how many words are lent. *falls is the number of moves
+ * down by one level, *pairs the number of pairs then held. A change that needs more words than are lent is number 12, and the rack keeps its bytes.
  * Numbers: 0, 1, 6 to 12.
  */
-uint32_t pairing_change(uint8_t *rack, size_t len, uint32_t code, uint32_t a, uint32_t b, const uint32_t *words, size_t count, uint32_t *draws,
+uint32_t pairing_change(uint8_t *rack, size_t len, uint32_t code, uint32_t a, uint32_t b, const uint32_t *words, size_t count, uint64_t *draws,
                         uint32_t *falls, uint32_t *pairs);
 
 /*

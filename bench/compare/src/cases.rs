@@ -180,7 +180,7 @@ impl Series {
         fresh(self.n)
     }
 
-    /// The words of a change, as many as it must bring.
+    /// The words of a change, as many as it may have new pairs.
     pub fn words(&self, change: &Change) -> &[u32] {
         self.more_words(change, self.n / 2)
     }

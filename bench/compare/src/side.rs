@@ -18,6 +18,9 @@ pub enum Side {
     Bare,
 }
 
+/// A change's number, draws, falls and pairs.
+type Figures = (u32, u64, u32, u32);
+
 impl Side {
     pub fn named(name: &str) -> Option<Side> {
         match name {
@@ -46,17 +49,17 @@ impl Side {
     }
 
     /// A change's number and figures.
-    pub fn change(self, rack: &mut RackBytes, change: &Change, words: &[u32]) -> [u32; 4] {
+    pub fn change(self, rack: &mut RackBytes, change: &Change, words: &[u32]) -> Figures {
         let &Change { code, a, b, .. } = change;
         if self == Side::Core {
             let answer = pairing::change(rack, code, a, b, words);
-            return [answer.number.0, answer.draws, answer.falls, answer.pairs];
+            return (answer.number.0, answer.draws, answer.falls, answer.pairs);
         }
         let answer = match self {
             Side::Bare => tuned::change_sound(rack, code, a, b, words),
             _ => tuned::change(rack, code, a, b, words),
         };
-        [answer.number, answer.draws, answer.falls, answer.pairs]
+        (answer.number, answer.draws, answer.falls, answer.pairs)
     }
 
     /// A run's number and the length of its record. No run audits a change, so

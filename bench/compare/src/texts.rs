@@ -25,8 +25,8 @@ pub const TEXTS: [(&str, usize); 7] = [
 ];
 
 impl Text {
-    /// The text of a kind: "run" has accepted changes with words of one digit,
-    /// as many as they must bring; "refused" has four refused changes after each
+    /// The text of a kind: "run" has accepted changes with words of one digit, as
+    /// many as they may have new pairs; "refused" has four refused changes after each
     /// accepted one; "words" has accepted changes with 128 words of ten digits;
     /// "line" has its first line alone.
     pub fn of(kind: &str, n: usize) -> Option<Text> {
@@ -78,7 +78,7 @@ fn line(code: u32, a: u32, b: u32, words: impl Iterator<Item = u32>) -> String {
     format!("({name} ({a} {b}) (draws{words}))\n")
 }
 
-/// The words that a change must bring, one digit each.
+/// The words of a change, one digit each.
 fn short<'a>(series: &'a Series, change: &Change) -> impl Iterator<Item = u32> + Clone + 'a {
     series.words(change).iter().map(|word| word % 10)
 }
@@ -88,8 +88,7 @@ fn accepted(series: &Series, change: &Change) -> Vec<String> {
     vec![line(code, a, b, short(series, change))]
 }
 
-/// The change, then 10 or 11 as it is made again, 9, 8, and 12 as it would be
-/// taken back.
+/// The change, then 10 or 11 as it is made again, 9, 8, and 10 or 11 without words.
 fn mostly_refused(series: &Series, change: &Change) -> Vec<String> {
     let &Change { code, a, b, .. } = change;
     let words = short(series, change);
@@ -98,7 +97,7 @@ fn mostly_refused(series: &Series, change: &Change) -> Vec<String> {
         line(code, b, a, words.clone()),
         line(code, a, a, words.clone()),
         line(code, a, series.n as u32, words),
-        line(3 - code, a, b, std::iter::empty()),
+        line(code, a, b, std::iter::empty()),
     ]
 }
 

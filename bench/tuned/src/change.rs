@@ -2,14 +2,17 @@
 
 use crate::audit::pairs_if_sound;
 use crate::bits;
+use crate::draws::{all_choose, Fair, Places, Plain};
 use crate::layout::{linked, roster, vertices, RackBytes};
-use crate::moves::{self, Tally, Words};
+use crate::moves::{self, Tally};
+use crate::saved::Saved;
 
-/// The number and figures of a change; a refused one has no other figures.
+/// The number and figures of a change; a refused one has no other figures. The draws
+/// are the words used, those passed over too.
 #[derive(Clone, Copy, Debug, Default, PartialEq, Eq)]
 pub struct Answer {
     pub number: u32,
-    pub draws: u32,
+    pub draws: u64,
     pub falls: u32,
     pub pairs: u32,
 }
@@ -25,7 +28,7 @@ impl Answer {
     pub fn accepted(tally: Tally) -> Answer {
         Answer {
             number: 0,
-            draws: tally.draws,
+            draws: u64::from(tally.draws),
             falls: tally.falls,
             pairs: tally.pairs,
         }
@@ -55,31 +58,75 @@ fn change_of(
     words: &[u32],
     pairs: impl Fn(&RackBytes) -> u32,
 ) -> Answer {
-    let ends = match allowed(rack, code, a, b, words.len()) {
+    let ends = match allowed(rack, code, a, b) {
         Ok(ends) => ends,
         Err(number) => return Answer::refused(number),
     };
     let pairs = pairs(rack);
-    Answer::accepted(play(rack, code, ends, Lent(words.iter()), pairs))
+    let enough = |rack: &RackBytes| words.get(..vertices(rack) / 2).is_some_and(all_choose);
+    made(rack, code, ends, words.iter().copied(), enough, pairs)
 }
 
-/// An allowed change on a sound rack that holds so many pairs.
-pub fn play<W: Words>(
+/// A change that 7 to 11 don't fit, on a sound rack that holds so many pairs. If the
+/// words are enough for any change of that rack, each draw takes the next of them.
+#[inline(always)]
+pub fn made<W: Iterator<Item = u32> + Clone>(
     rack: &mut RackBytes,
     code: u32,
-    (a, b): (u8, u8),
+    ends: (u8, u8),
     words: W,
+    enough: impl Fn(&RackBytes) -> bool,
     pairs: u32,
-) -> Tally {
-    if code == 1 {
-        moves::add(rack, a, b, words, pairs)
-    } else {
-        moves::drop(rack, a, b, words, pairs)
+) -> Answer {
+    let places = Plain(words.clone());
+    match play(rack, code, ends, places, enough, pairs) {
+        Some(tally) => Answer::accepted(tally),
+        None => made_or_not(rack, code, ends, words, pairs),
     }
 }
 
-/// Numbers 7 to 12, first fit first; otherwise the two vertices.
-pub fn allowed(rack: &RackBytes, code: u32, a: u32, b: u32, words: usize) -> Result<(u8, u8), u32> {
+#[inline(always)]
+fn play<P: Places>(
+    rack: &mut RackBytes,
+    code: u32,
+    ends: (u8, u8),
+    places: P,
+    enough: impl Fn(&RackBytes) -> bool,
+    pairs: u32,
+) -> Option<Tally> {
+    if code == 1 {
+        moves::add(rack, ends, places, enough, pairs)
+    } else {
+        moves::drop(rack, ends, places, enough, pairs)
+    }
+}
+
+/// A change with any words, which is taken back if it runs out of them.
+#[inline(never)]
+fn made_or_not<W: Iterator<Item = u32>>(
+    rack: &mut RackBytes,
+    code: u32,
+    ends: (u8, u8),
+    words: W,
+    pairs: u32,
+) -> Answer {
+    let saved = Saved::of(rack);
+    let mut fair = Fair::of(words);
+    let tally = play(rack, code, ends, &mut fair, |_| true, pairs);
+    match tally.filter(|_| !fair.ran_out) {
+        Some(tally) => Answer {
+            draws: u64::from(tally.draws) + fair.passed,
+            ..Answer::accepted(tally)
+        },
+        None => {
+            saved.put_back(rack);
+            Answer::refused(12)
+        }
+    }
+}
+
+/// Numbers 7 to 11, first fit first; otherwise the two vertices.
+pub fn allowed(rack: &RackBytes, code: u32, a: u32, b: u32) -> Result<(u8, u8), u32> {
     let n = vertices(rack);
     if code != 1 && code != 2 {
         return Err(7);
@@ -94,7 +141,6 @@ pub fn allowed(rack: &RackBytes, code: u32, a: u32, b: u32, words: usize) -> Res
     match (code, linked(rack, a, b)) {
         (1, true) => Err(10),
         (2, false) => Err(11),
-        _ if words < n / 2 => Err(12),
         _ => Ok((a, b)),
     }
 }
@@ -102,14 +148,4 @@ pub fn allowed(rack: &RackBytes, code: u32, a: u32, b: u32, words: usize) -> Res
 /// The pairs of a sound rack: its mated vertices are those that stand above rank 0.
 fn pairs(rack: &RackBytes) -> u32 {
     (vertices(rack) as u32 - bits::size(&roster(rack, 0))) / 2
-}
-
-/// The words lent to a change.
-struct Lent<'a>(std::slice::Iter<'a, u32>);
-
-impl Words for Lent<'_> {
-    fn next(&mut self) -> u32 {
-        // Draws are at most n div 2, so the words never run out.
-        self.0.next().copied().unwrap_or(0)
-    }
 }

@@ -7,8 +7,10 @@ const ZEROS: u64 = 0x3030_3030_3030_3030;
 const OVER_NINE: u64 = 0x7676_7676_7676_7676;
 const TOP_BITS: u64 = 0x8080_8080_8080_8080;
 
-/// The highest number, of ten digits as it stands.
+/// The highest number, and the lowest of the highest 256, of ten digits as they
+/// stand.
 const HIGHEST: &[u8; 10] = b"4294967295";
+const HIGH: &[u8; 10] = b"4294967040";
 
 /// The first sixteen bytes, with zeros past the end.
 #[inline(always)]
@@ -48,13 +50,14 @@ fn before(marks: u64) -> usize {
 }
 
 /// The length of the number at the start of a text; none if there are no
-/// digits, a leading zero, or more than the highest number.
+/// digits, a leading zero, or more than the highest number. It is noted if it is one
+/// of the highest 256.
 #[inline(always)]
-pub fn length(text: &[u8]) -> Option<usize> {
+pub fn length(text: &[u8], high: &mut bool) -> Option<usize> {
     let [head, tail] = sixteen(text);
     let marks = no_digits(head);
     if marks == 0 {
-        return long_length(text, 8 + before(no_digits(tail)));
+        return long_length(text, 8 + before(no_digits(tail)), high);
     }
     let length = before(marks);
     let fits = length == 1 || (length > 1 && head as u8 != b'0');
@@ -64,14 +67,21 @@ pub fn length(text: &[u8]) -> Option<usize> {
 /// The same where eight digits or more have been found. Numbers of ten are in
 /// order as their digits are, and most are told by the first.
 #[inline(always)]
-fn long_length(text: &[u8], length: usize) -> Option<usize> {
+fn long_length(text: &[u8], length: usize, high: &mut bool) -> Option<usize> {
     let first = text[0];
     let fits = match length {
         8 | 9 => first != b'0',
-        10 => first != b'0' && (first < b'4' || &text[..10] <= HIGHEST),
+        10 => first != b'0' && (first < b'4' || ten_fit(text, high)),
         _ => false,
     };
     fits.then_some(length)
+}
+
+/// The same of a number of ten digits.
+#[cold]
+fn ten_fit(text: &[u8], high: &mut bool) -> bool {
+    *high |= &text[..10] >= HIGH;
+    &text[..10] <= HIGHEST
 }
 
 /// The number at the start of a text, and what follows it. Vertices have at
@@ -98,7 +108,29 @@ pub fn number(text: &[u8]) -> Option<(u32, &[u8])> {
 
 /// The same for a number of any length.
 fn longer(text: &[u8]) -> Option<(u32, &[u8])> {
-    let (digits, rest) = text.split_at(length(text)?);
+    let (digits, rest) = text.split_at(length(text, &mut false)?);
     let next = |value: u32, digit: &u8| 10 * value + u32::from(digit ^ b'0');
     Some((digits.iter().fold(0, next), rest))
+}
+
+#[cfg(test)]
+mod tests {
+    use super::length;
+
+    /// The numbers around the lowest of the highest 256, and those past the highest.
+    #[test]
+    fn highest_numbers() {
+        let highest = u64::from(u32::MAX);
+        for number in highest - 1_000..highest + 1_000 {
+            let (text, mut high) = (format!("{number} 5))\n"), false);
+            let came = length(text.as_bytes(), &mut high);
+            assert_eq!(came, (number <= highest).then_some(10), "{number}");
+            assert_eq!(high, number > highest - 256, "{number}");
+        }
+        for text in ["1", "99999999 ", "3999999999 ", "4000000000 ", "999999999)"] {
+            let mut high = false;
+            assert!(length(text.as_bytes(), &mut high).is_some(), "{text}");
+            assert!(!high, "{text}");
+        }
+    }
 }

@@ -20,7 +20,7 @@ pub const ONES: u32 = 0x0101_0101;
 /// its threshold, so no other value has this bit.
 pub const REACHED: u32 = 0x4010_0401;
 
-const EDGES_AT: usize = 2;
+pub const EDGES_AT: usize = 2;
 pub const RANKS_AT: usize = 8;
 pub const MATES_AT: usize = 264;
 pub const PHI_AT: usize = 776;

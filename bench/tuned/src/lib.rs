@@ -15,6 +15,7 @@ mod bits;
 mod blocks;
 mod change;
 mod digits;
+mod draws;
 mod few;
 mod lanes;
 mod layout;
@@ -27,6 +28,7 @@ mod queues;
 mod record;
 mod rosters;
 mod run;
+mod saved;
 mod text;
 mod words;
 

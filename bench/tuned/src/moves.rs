@@ -1,14 +1,10 @@
 //! Adding and dropping an edge of a sound rack, in place.
 
+use crate::draws::Places;
 use crate::layout::{
     self, counted_from, disown, mate, own, phi, rank, set_phi, RackBytes, REACHED,
 };
 use crate::play::Play;
-
-/// Where the draw words come from, one after the other.
-pub trait Words {
-    fn next(&mut self) -> u32;
-}
 
 /// What an accepted change answers.
 #[derive(Clone, Copy)]
@@ -28,27 +24,65 @@ impl Tally {
     }
 }
 
-/// Adds the edge a-b to a rack that holds so many pairs.
-pub fn add<W: Words>(rack: &mut RackBytes, a: u8, b: u8, words: W, pairs: u32) -> Tally {
+/// Adds the edge a-b to a rack that holds so many pairs. If a vertex has to draw and
+/// the words aren't enough for it, nothing is done.
+#[inline(always)]
+pub fn add<P: Places>(
+    rack: &mut RackBytes,
+    (a, b): (u8, u8),
+    places: P,
+    enough: impl FnOnce(&RackBytes) -> bool,
+    pairs: u32,
+) -> Option<Tally> {
     let (low, high) = (a.min(b), a.max(b));
     put_edge(rack, low, high);
     let Some((riser, rank)) = riser(rack, low, high) else {
-        return Tally::start(pairs);
+        return Some(Tally::start(pairs));
     };
+    if !enough(rack) {
+        take_edge(rack, low, high);
+        return None;
+    }
     // On equal ranks the riser takes its edge at once, so that later no vertex of
     // rank 0 is an owner.
     if riser == high && layout::rank(rack, low) == layout::rank(rack, high) {
         disown(rack, low, high);
         own(rack, high, low);
     }
-    let mut play = Play::start(rack, words, pairs);
+    let mut play = Play::start(rack, places, pairs);
     play.rise_and_draw(riser, rank);
     play.settle(rank - 1);
-    play.tally
+    Some(play.tally)
 }
 
-/// Drops the edge a-b from a rack that holds so many pairs.
-pub fn drop<W: Words>(rack: &mut RackBytes, a: u8, b: u8, words: W, pairs: u32) -> Tally {
+/// Drops the edge a-b from a rack that holds so many pairs. If a pair is parted and
+/// the words aren't enough for it, nothing is done.
+#[inline(always)]
+pub fn drop<P: Places>(
+    rack: &mut RackBytes,
+    (a, b): (u8, u8),
+    places: P,
+    enough: impl FnOnce(&RackBytes) -> bool,
+    pairs: u32,
+) -> Option<Tally> {
+    if mate(rack, a) != u16::from(b) {
+        take_edge(rack, a, b);
+        return Some(Tally::start(pairs));
+    }
+    if !enough(rack) {
+        return None;
+    }
+    take_edge(rack, a, b);
+    let rank = rank(rack, a);
+    let mut play = Play::start(rack, places, pairs);
+    play.part(a, b, rank);
+    play.settle(rank);
+    Some(play.tally)
+}
+
+/// Takes the edge out, which both ends counted above both ranks.
+#[inline(always)]
+fn take_edge(rack: &mut RackBytes, a: u8, b: u8) {
     disown(rack, a, b);
     disown(rack, b, a);
     layout::set_edges(rack, layout::edges(rack) - 1);
@@ -56,13 +90,6 @@ pub fn drop<W: Words>(rack: &mut RackBytes, a: u8, b: u8, words: W, pairs: u32) 
     for end in [a, b] {
         set_phi(rack, end, phi(rack, end) - counted_from(above));
     }
-    if mate(rack, a) != u16::from(b) {
-        return Tally::start(pairs);
-    }
-    let mut play = Play::start(rack, words, pairs);
-    play.part(a, b, above);
-    play.settle(above);
-    play.tally
 }
 
 /// Puts the edge in: the owner is the end of higher rank, on equal ranks the

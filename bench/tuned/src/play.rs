@@ -12,27 +12,28 @@
 //! the partings before them, are not, so that a tool can count takings without them.
 
 use crate::bits::{self, Row};
+use crate::draws::Places;
 use crate::layout::{
     counted_from, disown, mate, near_owners, own, owns, phi, rank, roster, row, set_mate, set_phi,
     set_rank, set_row, RackBytes, FREE, ONES, REACHED,
 };
-use crate::moves::{Tally, Words};
+use crate::moves::Tally;
 use crate::queues::{self, Queues};
 
 /// A change in play. Pending vertices stand in one queue a rank, so that none
 /// has to be looked for.
-pub struct Play<'a, W> {
+pub struct Play<'a, P> {
     rack: &'a mut RackBytes,
-    words: W,
+    places: P,
     queues: Queues,
     pub tally: Tally,
 }
 
-impl<W: Words> Play<'_, W> {
-    pub fn start(rack: &mut RackBytes, words: W, pairs: u32) -> Play<'_, W> {
+impl<P: Places> Play<'_, P> {
+    pub fn start(rack: &mut RackBytes, places: P, pairs: u32) -> Play<'_, P> {
         Play {
             rack,
-            words,
+            places,
             queues: Queues::start(),
             tally: Tally::start(pairs),
         }
@@ -140,7 +141,7 @@ impl<W: Words> Play<'_, W> {
     /// rises to that rank and becomes its mate.
     #[inline(always)]
     fn draw(&mut self, u: u8, at: u8, candidates: u32) {
-        let place = self.words.next() % candidates;
+        let place = self.places.next(candidates);
         let y = bits::nth(&row(self.rack, u), place);
         self.leave(y);
         self.rise(y, at);

@@ -48,7 +48,7 @@ impl<'a> Record<'a> {
             self.piece(*b"(refused        ", 9);
             self.figure(number, *b")\n\0\0", 2);
         } else if draws > 9 || falls > 9 {
-            self.long_answer(draws, falls, pairs);
+            self.long_answer(draws as u32, falls, pairs);
         } else {
             let mut line = *b"(done (draws 0) (falls 0) (pairs ";
             line[13] |= draws as u8;
@@ -146,7 +146,7 @@ mod tests {
             for pairs in figures {
                 let answer = Answer {
                     number: 0,
-                    draws,
+                    draws: u64::from(draws),
                     falls,
                     pairs,
                 };

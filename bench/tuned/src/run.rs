@@ -1,7 +1,7 @@
 //! Running a trace text to a record.
 
-use crate::change::{allowed, play, Answer};
-use crate::layout::{make, RackBytes};
+use crate::change::{allowed, made, Answer};
+use crate::layout::{make, vertices, RackBytes};
 use crate::record::Record;
 use crate::text::{self, Step, Trace};
 
@@ -86,12 +86,14 @@ fn wanted(text: &[u8], space: usize) -> Result<Trace<'_>, (u32, usize)> {
 
 /// One change of a run; the pairs held are kept from change to change.
 fn one(rack: &mut RackBytes, step: &Step, pairs: &mut u32) -> Answer {
-    match allowed(rack, step.code, step.a, step.b, step.words) {
-        Err(number) => Answer::refused(number),
-        Ok(ends) => {
-            let tally = play(rack, step.code, ends, step.drawn, *pairs);
-            *pairs = tally.pairs;
-            Answer::accepted(tally)
-        }
+    let ends = match allowed(rack, step.code, step.a, step.b) {
+        Ok(ends) => ends,
+        Err(number) => return Answer::refused(number),
+    };
+    let enough = |rack: &RackBytes| step.words.number >= vertices(rack) / 2 && !step.words.high;
+    let answer = made(rack, step.code, ends, step.drawn, enough, *pairs);
+    if answer.number == 0 {
+        *pairs = answer.pairs;
     }
+    answer
 }

@@ -2,15 +2,15 @@
 //! the place of its words.
 
 use crate::digits::{number, sixteen};
-use crate::words::{pass, Drawn};
+use crate::words::{pass, Drawn, Passed};
 
 /// One change line of a trace.
 pub struct Step<'a> {
     pub code: u32,
     pub a: u32,
     pub b: u32,
-    /// How many words the line brings, and the text from their place on.
-    pub words: usize,
+    /// What words the line brings, and the text from their place on.
+    pub words: Passed,
     pub drawn: Drawn<'a>,
 }
 
@@ -68,7 +68,7 @@ fn change_line(text: &[u8]) -> Option<(Step<'_>, &[u8])> {
         drawn,
     };
     let rest = line_end(rest)?;
-    (words <= MOST_WORDS).then_some((step, rest))
+    (step.words.number <= MOST_WORDS).then_some((step, rest))
 }
 
 /// The beginnings of a change line, and the bits of eight bytes that they take.

@@ -2,7 +2,6 @@
 //! drawn are read.
 
 use crate::digits::{halves, length, number};
-use crate::moves::Words;
 
 /// The words of a line that fits, read one after the other.
 #[derive(Clone, Copy)]
@@ -10,38 +9,49 @@ pub struct Drawn<'a> {
     pub rest: &'a [u8],
 }
 
-impl Words for Drawn<'_> {
-    fn next(&mut self) -> u32 {
-        let Some((word, rest)) = number(&self.rest[1..]) else {
-            return 0;
-        };
+impl Iterator for Drawn<'_> {
+    type Item = u32;
+
+    #[inline(always)]
+    fn next(&mut self) -> Option<u32> {
+        let (word, rest) = number(self.rest.strip_prefix(b" ")?)?;
         self.rest = rest;
-        word
+        Some(word)
     }
+}
+
+/// Words that were passed: how many, and whether some draw could pass over one of
+/// them.
+#[derive(Clone, Copy)]
+pub struct Passed {
+    pub number: usize,
+    pub high: bool,
 }
 
 /// Passes over words, each with a space before it, and counts them.
 #[inline(always)]
-pub fn pass(text: &[u8]) -> Option<(usize, &[u8])> {
+pub fn pass(text: &[u8]) -> Option<(Passed, &[u8])> {
     let rest = after_short(text);
-    let words = (text.len() - rest.len()) / 2;
+    let number = (text.len() - rest.len()) / 2;
     if rest.first() != Some(&b' ') {
-        return Some((words, rest));
+        let high = false;
+        return Some((Passed { number, high }, rest));
     }
-    let (others, rest) = pass_singly(rest)?;
-    Some((words + others, rest))
+    let (mut passed, rest) = pass_singly(rest)?;
+    passed.number += number;
+    Some((passed, rest))
 }
 
 /// The same word by word, for words of any length. It is kept out of the
 /// function that reads the lines, so that it has the registers to itself.
 #[inline(never)]
-fn pass_singly(text: &[u8]) -> Option<(usize, &[u8])> {
-    let (mut words, mut rest) = (0, text);
+fn pass_singly(text: &[u8]) -> Option<(Passed, &[u8])> {
+    let (mut number, mut high, mut rest) = (0, false, text);
     while let Some((b' ', word)) = rest.split_first() {
-        rest = &word[length(word)?..];
-        words += 1;
+        rest = &word[length(word, &mut high)?..];
+        number += 1;
     }
-    Some((words, rest))
+    Some((Passed { number, high }, rest))
 }
 
 /// What follows the words of one digit at the start, as far as they come in

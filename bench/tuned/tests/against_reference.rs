@@ -38,7 +38,7 @@ fn audits_of_sound_racks() {
     for seed in 0..3_000 {
         let mut random = Random::new(0x50_0000 + seed);
         let n = racks::size(&mut random);
-        let kind = random.pick(&[Kind::Reached, Kind::Random, Kind::Dense]);
+        let kind = random.pick(&[Kind::Reached, Kind::Random, Kind::Dense, Kind::Forks]);
         let rack = racks::rack(&mut random, n, kind);
         assert!(tuned::audit(&bytes(&rack)), "seed {seed}, {kind:?} {n}");
     }

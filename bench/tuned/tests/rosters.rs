@@ -125,7 +125,7 @@ fn numbers_at_levels() {
     for seed in 0..3_000 {
         let mut random = Random::new(0x81_0000 + seed);
         let n = racks::size(&mut random);
-        let kind = random.pick(&[Kind::Reached, Kind::Random, Kind::Dense]);
+        let kind = random.pick(&[Kind::Reached, Kind::Random, Kind::Dense, Kind::Forks]);
         let mut bytes = racks::rack(&mut random, n, kind).to_bytes();
         if random.percent(30) {
             bytes[random.below(RACK_BYTES)] ^= 1 << random.below(8);

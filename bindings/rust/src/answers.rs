@@ -90,8 +90,8 @@ impl Roster {
 #[must_use]
 pub struct Answer {
     pub number: Number,
-    /// How many of the words were used.
-    pub draws: u32,
+    /// How many of the words were used: 64 bits, since no call limits a word list.
+    pub draws: u64,
     /// The moves down by one level.
     pub falls: u32,
     /// The pairs then held.

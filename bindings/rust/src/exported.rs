@@ -25,7 +25,7 @@ extern "C" {
         b: u32,
         words: *const u32,
         count: usize,
-        draws: *mut u32,
+        draws: *mut u64,
         falls: *mut u32,
         pairs: *mut u32,
     ) -> Number;

@@ -132,6 +132,7 @@ pub const DROP: u32 = 2;
 /// What stands in a figure before a call. Every figure is written by it; one
 /// left out would show.
 const UNWRITTEN: u32 = 0xdead_beef;
+const UNWRITTEN_DRAWS: u64 = 0xdead_beef_dead_beef;
 
 /// Makes the buffer a rack of n vertices without edges. The number is 0, 1 or
 /// 5.
@@ -182,10 +183,14 @@ pub fn roster(rack: &[u8], level: i32) -> Roster {
 }
 
 /// Adds (code [`ADD`]) or drops (code [`DROP`]) the edge a-b and mends the
-/// matching. The words decide which neighbours are drawn; at least n div 2 of
-/// them must be lent. The number is 0, 1 or 6 to 12.
+/// matching. The words decide which neighbours are drawn: of k neighbours, a word
+/// below the largest multiple of k that is at most 2^32 chooses the one at place
+/// word mod k, and any other word is passed over. A change that needs more words
+/// than are lent is number 12, and the rack keeps its bytes. The number is 0, 1 or
+/// 6 to 12.
 pub fn change(rack: &mut [u8], code: u32, a: u32, b: u32, words: &[u32]) -> Answer {
-    let [mut draws, mut falls, mut pairs] = [UNWRITTEN; 3];
+    let mut draws = UNWRITTEN_DRAWS;
+    let [mut falls, mut pairs] = [UNWRITTEN; 2];
     // SAFETY: both slices are lent for the call, the words only to be read; the figures are locals.
     let number = unsafe {
         exported::pairing_change(

@@ -37,7 +37,7 @@ impl Number {
     pub const EDGE_PRESENT: Number = Number(10);
     /// 11: an edge to drop isn't there.
     pub const EDGE_ABSENT: Number = Number(11);
-    /// 12: fewer words are lent than n div 2.
+    /// 12: the change runs out of words: it needs more than are lent.
     pub const TOO_FEW_WORDS: Number = Number(12);
 
     /// The number as an error, unless the call ran.
@@ -105,7 +105,7 @@ const TOLD: [(&str, &str); 13] = [
     ),
     (
         "TOO_FEW_WORDS",
-        "fewer words are lent than n div 2; lend as many, even if no draw comes of it",
+        "the change needs more words than are lent; lend more, the first ones the same",
     ),
 ];
 

@@ -1,22 +1,27 @@
 -- A change as a whole: which of its ends is which, and what it answers. Assumes nothing.
 use mathlib.Core.Path.{_≡_, refl, sym, ap, ap₂, _∙_, subst}
 use mathlib.Core.Logic.{_≢_, inl, inr}
+use mathlib.Core.Bool.{Bool, true, false}
 use mathlib.Core.List.{List}
-use Prim.Native.Nat.{ℕ, _<_}
+use Prim.Native.Nat.{ℕ, zero, suc, _≤_, _<_}
+use native.Mathlib.Omega.{arith}
+use lib.Dec.{ltb}
+use lib.ListN.{length}
 use Rattle.model.specs.Shape.{Shape, GoodShape}
 use Rattle.model.specs.State.{base, Kind, State, edge, pairs}
 use Rattle.model.specs.Bytes.{read, write}
 use Rattle.model.specs.Valid.{Valid}
-use Rattle.model.specs.Change.{Change, Changed, lower, upper, add, drop, number, refused, done, accepted, change}
+use Rattle.model.specs.Change.{Change, Changed, lower, upper, add, drop, early, number, refused, done, accepted, runsOut, change}
 use Rattle.model.proofs.Tests.{eq?, le?, bool-ext, T-true, T-false, eqb-yes, eqb-no, leb-yes, leb-no}
 use Rattle.model.proofs.Reading.{read-write}
-use Rattle.theory.proofs.Numbers.{Fitting, number-zero}
+use Rattle.theory.proofs.Numbers.{Fitting, early-zero, number-early, number-told}
 use Rattle.theory.proofs.ChangeStep.{Step}
 use Rattle.theory.proofs.OnBytes.{Rack, step, next-rack}
 use Rattle.moves.proofs.Edges.{edge-turn}
 use Rattle.settling.specs.declared.tally.Tally.{Tally}
 use Rattle.changes.specs.declared.Answer.{Answer}
-use Rattle.changes.specs.Sounded.{Sounded, Acceptable, acceptedRun, Ended, Answers}
+use Rattle.changes.specs.Sounded.{Sounded, Acceptable, acceptedRun, Answers, figures}
+use Rattle.changes.specs.Working.{Tried}
 
 -- the two numbers in order are the same two
 pub ordered-ends : (P : ℕ → ℕ → Type 0) (a b : ℕ) → P a b → P b a → P (lower a b) (upper a b)
@@ -43,11 +48,13 @@ module _ (s : State) (c : Change) {low high : ℕ} (l : low ≡ lower (c .a) (c 
   in-order q = rw (l, h) (ordered-ends (Acceptable s (c .code)) (c .a) (c .b) q (turned q))
 
   -- its moves, by its code
-  pub adds-run : {bs : List ℕ} {t : Tally} → c .code ≡ 1 → Ended (add base (c .words) low high s) bs t → Ended (acceptedRun s c) bs t
+  pub adds-run : {bs bs′ : List ℕ} {t : Tally} → c .code ≡ 1 → Tried (add base (c .words) low high s) (c .words) bs bs′ t
+      → Tried (acceptedRun s c) (c .words) bs bs′ t
   unfolding acceptedRun
   adds-run e x = rw (eqb-yes (c .code) 1 e, acceptedRun, sym l, sym h) x
 
-  pub drops-run : {bs : List ℕ} {t : Tally} → c .code ≢ 1 → Ended (drop base (c .words) low high s) bs t → Ended (acceptedRun s c) bs t
+  pub drops-run : {bs bs′ : List ℕ} {t : Tally} → c .code ≢ 1 → Tried (drop base (c .words) low high s) (c .words) bs bs′ t
+      → Tried (acceptedRun s c) (c .words) bs bs′ t
   unfolding acceptedRun
   drops-run e x = rw (eqb-no (c .code) 1 e, acceptedRun, sym l, sym h) x
 
@@ -61,9 +68,9 @@ module _ (s : State) (c : Change) where
   ]
 
   -- none of 7 to 11 fits
-  pub acceptable : number (s .n) (edge s) c ≡ 0 → Acceptable s (c .code) (c .a) (c .b)
+  pub acceptable : early (s .n) (edge s) c ≡ 0 → Acceptable s (c .code) (c .a) (c .b)
   acceptable z =
-      let f : Fitting (s .n) (edge s) c = number-zero (s .n) (edge s) c z in
+      let f : Fitting (s .n) (edge s) c = early-zero (s .n) (edge s) c z in
       record {
         inside = (f .a-in, f .b-in);
         apart = f .apart;
@@ -94,47 +101,74 @@ module _ {S : Shape} {bs : List ℕ} (ok : Sounded S bs) (c : Change) where
   whole : Step base (read S bs) c (change base (read S bs) c)
   whole = step (read S bs) (ok .valid) c
 
-  -- refused: its number and zeros, and the rack as it was
-  pub refused-answer : (r : Answer) → r .number ≡ number (read S bs .n) (edge (read S bs)) c → r .number ≢ 0
-      → r .draws ≡ 0 → r .falls ≡ 0 → r .pairs ≡ 0 → Answers r (change base (read S bs) c .answer)
-  unfolding refused
-  refused-answer r e d p q o =
-      let k = whole .refused-keeps (λ z. d (e ∙ sym (whole .number) ∙ z)) in
-      rw (k .1) (record { number = e ∙ sym (whole .number); draws = p; falls = q; pairs = o })
+  -- its number
+  abbrev pub number-of : ℕ
+  number-of = number (read S bs .n) (edge (read S bs)) (runsOut base (read S bs) c) c
 
-  pub refused-leaves : number (read S bs .n) (edge (read S bs)) c ≢ 0 → bs ≡ write (change base (read S bs) c .state)
-  refused-leaves d = ok .written ∙ ap write (sym (whole .refused-keeps (λ z. d (sym (whole .number) ∙ z)) .0))
+  -- refused by k: that number and zeros, and the rack as it was
+  module _ {k : ℕ} (some : k ≢ 0) (is : number-of ≡ k) where
+    kept : (change base (read S bs) c .state ≡ read S bs) × (change base (read S bs) c .answer ≡ refused k)
+    kept =
+        let n : change base (read S bs) c .answer .number ≡ k = whole .number ∙ is in
+        let r = whole .refused-keeps (λ z. some (sym n ∙ z)) in
+        (r .0, r .1 ∙ ap refused n)
 
-  -- accepted: the run's
-  module _ (z : number (read S bs .n) (edge (read S bs)) c ≡ 0) where
-    run-is : change base (read S bs) c ≡ done (acceptedRun (read S bs) c)
-    run-is = whole .accepted-is (whole .number ∙ z) ∙ accepted-done (read S bs) c
+    pub refused-answer : (r : Answer) → Answers r (refused k) → Answers r (change base (read S bs) c .answer)
+    refused-answer r a = subst (Answers r) (sym (kept .1)) a
 
-    -- the state that the run leaves
-    run-rack : Rack (acceptedRun (read S bs) c .state)
-    unfolding done
-    run-rack = subst (λ (d : Changed). Rack (d .state)) run-is (next-rack (read S bs) (sounded-rack ok) c)
+    pub refused-leaves : bs ≡ write (change base (read S bs) c .state)
+    refused-leaves = ok .written ∙ ap write (sym (kept .0))
 
-    run-shape : acceptedRun (read S bs) c .state .kind .shape ≡ S
-    unfolding done read
-    run-shape = ap (λ (d : Changed). d .state .kind .shape) (sym run-is) ∙ ap (λ (K : Kind). K .shape) (whole .kind)
+  -- .. by one of 7 to 11, which come first
+  pub fits-early : (k : ℕ) → early (read S bs .n) (edge (read S bs)) c ≡ k → k ≢ 0 → number-of ≡ k
+  fits-early zero e d = absurd (d refl)
+  fits-early (suc k) e d = number-early (read S bs .n) (edge (read S bs)) (runsOut base (read S bs) c) c k e
 
-    module _ {bs′ : List ℕ} {t : Tally} (x : Ended (acceptedRun (read S bs) c) bs′ t) where
-      pub accepted-sounded : Sounded S bs′
-      accepted-sounded = sounded-of bs′ _ run-shape (x .rack) run-rack
+  -- none of 7 to 11 fits, and the words suffice or not, by the tally that the moves come to
+  module _ (z : early (read S bs .n) (edge (read S bs)) c ≡ 0) {bs′ : List ℕ} {t : Tally} (x : Tried (acceptedRun (read S bs) c) (c .words) bs bs′ t) where
+    out-is : runsOut base (read S bs) c ≡ ltb (length (c .words)) (t .draws)
+    unfolding runsOut done
+    out-is = ap (ltb (length (c .words))) (ap (λ (d : Changed). d .answer .draws) (accepted-done (read S bs) c) ∙ sym (x .draws))
 
-      pub accepted-answer : (r : Answer) → r .number ≡ 0 → r .draws ≡ t .draws → r .falls ≡ t .falls → r .pairs ≡ pairs (read S bs′)
-          → Answers r (change base (read S bs) c .answer)
+    told-is : (out : Bool) → ltb (length (c .words)) (t .draws) ≡ out → number-of ≡ elim out [ true ↦ 12 | false ↦ 0 ]
+    told-is out e =
+        number-told (read S bs .n) (edge (read S bs)) (runsOut base (read S bs) c) c z
+        ∙ ap (λ (y : Bool). elim y as (λ o. ℕ) [ true ↦ 12 | false ↦ 0 ]) (out-is ∙ e)
+
+    -- it runs out of words
+    pub fits-out : length (c .words) < t .draws → number-of ≡ 12
+    fits-out h = told-is true (leb-yes (suc (length (c .words))) (t .draws) h)
+
+    -- it does not: what is answered and left is the run's
+    module _ (enough : t .draws ≤ length (c .words)) where
+      run-is : change base (read S bs) c ≡ done (acceptedRun (read S bs) c)
+      run-is =
+          let n = told-is false (leb-no (suc (length (c .words))) (t .draws) (omega arith)) in
+          whole .accepted-is (whole .number ∙ n) ∙ accepted-done (read S bs) c
+
+      -- the state that the run leaves
+      run-rack : Rack (acceptedRun (read S bs) c .state)
       unfolding done
-      accepted-answer r e p q o =
+      run-rack = subst (λ (d : Changed). Rack (d .state)) run-is (next-rack (read S bs) (sounded-rack ok) c)
+
+      run-shape : acceptedRun (read S bs) c .state .kind .shape ≡ S
+      unfolding done read
+      run-shape = ap (λ (d : Changed). d .state .kind .shape) (sym run-is) ∙ ap (λ (K : Kind). K .shape) (whole .kind)
+
+      pub accepted-sounded : Sounded S bs′
+      accepted-sounded = sounded-of bs′ _ run-shape (x .made enough) run-rack
+
+      pub accepted-answer : (r : Answer) → Answers r (figures t (read S bs′)) → Answers r (change base (read S bs) c .answer)
+      unfolding done
+      accepted-answer r a =
           rw run-is
           (record {
-            number = e;
-            draws = p ∙ x .draws;
-            falls = q ∙ x .falls;
-            pairs = o ∙ ap pairs (rack-reads bs′ _ run-shape (x .rack) run-rack);
+            number = a .number;
+            draws = a .draws ∙ x .draws;
+            falls = a .falls ∙ x .falls;
+            pairs = a .pairs ∙ ap pairs (rack-reads bs′ _ run-shape (x .made enough) run-rack);
           })
 
       pub accepted-leaves : bs′ ≡ write (change base (read S bs) c .state)
       unfolding done
-      accepted-leaves = x .rack ∙ ap (λ (d : Changed). write (d .state)) (sym run-is)
+      accepted-leaves = x .made enough ∙ ap (λ (d : Changed). write (d .state)) (sym run-is)

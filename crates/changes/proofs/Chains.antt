@@ -24,7 +24,7 @@ use Rattle.moves.proofs.Keeps.{part-proper}
 use Rattle.settling.specs.declared.tally.Tally.{Tally}
 use Rattle.settling.specs.Settling.{queueIn, running, HoldsWaiting, Requeued, Room, Left}
 use Rattle.settling.proofs.Steps.{SameEdges, promote-kept}
-use Rattle.settling.proofs.News.{SameRun, same-then, promote-same, promote-draws, promote-falls}
+use Rattle.settling.proofs.News.{SameRun, same-then, promote-same, promote-room, promote-falls}
 use Rattle.settling.proofs.Written.{levels-as, left-run}
 use Rattle.settling.proofs.SettleLoop.{settle-same}
 use Rattle.changes.specs.Sounded.{Begun, Liftable, Ended}
@@ -63,11 +63,11 @@ begins S bs places {t} z = record {
 }
 
 -- the settling begins at bs, places and t, where r has come
-pub record Onward (S : Shape) (r : Run) (bs places : List ℕ) (t : Tally) : Type 0 where
+pub record Onward (S : Shape) (words : List ℕ) (r : Run) (bs places : List ℕ) (t : Tally) : Type 0 where
   pub held : Held S bs
   pub ordered : Ordered (read S bs)
   pub holds : HoldsWaiting places t (read S bs)
-  pub room : Room 1 0 t
+  pub room : Room (suc (length words)) 0 t
   pub same : SameRun (running S bs places t) r
 
 -- what is left of a run is left of any that differs in its new pairs alone
@@ -82,14 +82,14 @@ settled-same words {r} {q} s =
     (ap (λ (x : State). x .n * suc (base .top)) (s .state)) (settle-same words (r .state .n * suc (base .top)) r q s)
 
 -- what the settling leaves is left of the whole
-pub settled-on : {S : Shape} (words : List ℕ) {r : Run} {bs places bs′ places′ : List ℕ} {t t′ : Tally} → Onward S r bs places t
+pub settled-on : {S : Shape} (words : List ℕ) {r : Run} {bs places bs′ places′ : List ℕ} {t t′ : Tally} → Onward S words r bs places t
     → Left (settle base words (running S bs places t)) bs′ places′ t′ → Ended (settle base words r) bs′ t′
 settled-on words n l = ran-of l (settled-same words (n .same))
 
 -- after the riser's promotion
 pub promoted-next : {S : Shape} (words : List ℕ) (i u : ℕ) {bs₀ : List ℕ} (places₀ : List ℕ) {t₀ : Tally} → Begun S bs₀ → Liftable (read S bs₀) i u
     → Fresh t₀ → {bs places : List ℕ} {t : Tally} → Left (promote words i u (running S bs₀ places₀ t₀)) bs places t
-    → Onward S (promote words i u (start (read S bs₀))) bs places t
+    → Onward S words (promote words i u (start (read S bs₀))) bs places t
 promoted-next {S} words i u {bs₀} places₀ {t₀} b m z {bs} {places} {t} l =
     let r : Run = promote words i u (running S bs₀ places₀ t₀) in
     let k : SameEdges S (read S bs₀) (r .state) =
@@ -100,7 +100,7 @@ promoted-next {S} words i u {bs₀} places₀ {t₀} b m z {bs} {places} {t} l =
       ordered = subst Ordered (sym (s .state)) (k .ordered);
       holds = subst (HoldsWaiting places t) (sym (s .state)) (l .holds);
       room = record {
-        draws = omega (arith, l .draws, promote-draws words i u (running S bs₀ places₀ t₀));
+        draws = omega (arith, l .draws, promote-room words i {b = length words} (omega arith) u (running S bs₀ places₀ t₀) (omega (arith, z .0)));
         falls = omega (arith, l .falls, promote-falls words i u (running S bs₀ places₀ t₀));
       };
       same = same-then s (promote-same words i u (begins S bs₀ places₀ z));
@@ -128,9 +128,9 @@ module _ {S : Shape} {bs : List ℕ} (g : Begun S bs) {a b : ℕ} (ends : (a < r
   }
 
   -- where the parting leaves the run
-  pub parted-next : {bs′ : List ℕ} → bs′ ≡ write (part a (read S bs)) → Onward S (startParted a b (read S bs)) bs′ places t
+  pub parted-next : (words : List ℕ) {bs′ : List ℕ} → bs′ ≡ write (part a (read S bs)) → Onward S words (startParted a b (read S bs)) bs′ places t
   unfolding startParted part
-  parted-next {bs′} e =
+  parted-next words {bs′} e =
       let p : Proper S (part a (read S bs)) = part-proper (read S bs) (g .held .proper) a (ends .0) in
       let r : read S bs′ ≡ part a (read S bs) = reads-as bs′ (part a (read S bs)) e p in
       record {

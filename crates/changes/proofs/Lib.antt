@@ -3,4 +3,5 @@ pub mod Begun
 pub mod Numbers
 pub mod Chains
 pub mod Wholes
+pub mod Trials
 pub mod Answered

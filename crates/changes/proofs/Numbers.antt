@@ -3,18 +3,17 @@ use mathlib.Core.Path.{_≡_, refl, ap₂}
 use mathlib.Core.Logic.{_≢_, inl, inr}
 use mathlib.Core.Bool.{Bool, true, false, not, _||_, _&&_}
 use mathlib.Core.List.{List}
-use Prim.Native.Nat.{ℕ, zero, suc, _/_, _≤_, _<_}
+use Prim.Native.Nat.{ℕ, zero, suc, _≤_, _<_}
 use native.Mathlib.Omega.{arith}
 use lib.Dec.{eqb, ltb}
-use lib.ListN.{length}
 use Rattle.model.specs.Shape.{Shape}
 use Rattle.model.specs.State.{edge}
 use Rattle.model.specs.Bytes.{ownsAt, read}
-use Rattle.model.specs.Change.{Change, number}
+use Rattle.model.specs.Change.{Change, early}
 use Rattle.model.proofs.Tests.{eq?, le?, eqb-yes, eqb-no, leb-yes, leb-no}
 use Rattle.moves.specs.Proper.{Held}
 use Rattle.moves.proofs.Held.{held-small, held-owns}
-use Rattle.changes.specs.Sounded.{codeNumber, endsNumber, linkNumber, wordsNumber, first}
+use Rattle.changes.specs.Sounded.{codeNumber, endsNumber, linkNumber, first}
 
 -- the numbers of the boards
 module _ (n a b : ℕ) where
@@ -60,50 +59,43 @@ unfolding first
 first-zero zero y e = e
 first-zero (suc k) y e = absurd (omega (arith, e))
 
--- the numbers that what is named has, and then those of the edge and of the words
+-- the numbers that what is named has, and then those of the edge
 module _ (n : ℕ) (there : ℕ → ℕ → Bool) (c : Change) where
   abbrev pub ofNamed : ℕ
   ofNamed = first (codeNumber (c .code)) (endsNumber n (c .a) (c .b))
 
-  abbrev pub ofRest : ℕ
-  ofRest = first (linkNumber (c .code) (there (c .a) (c .b))) (wordsNumber n (c .words))
+  abbrev pub ofEdge : ℕ
+  ofEdge = linkNumber (c .code) (there (c .a) (c .b))
 
-  pub number-is : first ofNamed ofRest ≡ number n there c
-  unfolding number codeNumber endsNumber linkNumber wordsNumber first
-  number-is =
-      go (eqb (c .code) 1) (eqb (c .code) 2) (ltb (c .a) n && ltb (c .b) n) (eqb (c .a) (c .b)) (there (c .a) (c .b))
-      (ltb (length (c .words)) (n / 2))
+  pub early-is : first ofNamed ofEdge ≡ early n there c
+  unfolding early codeNumber endsNumber linkNumber first
+  early-is = go (eqb (c .code) 1) (eqb (c .code) 2) (ltb (c .a) n && ltb (c .b) n) (eqb (c .a) (c .b)) (there (c .a) (c .b))
     where
-      go : (adds drops inside same linked few : Bool)
+      go : (adds drops inside same linked : Bool)
           → _≡_ {A = ℕ}
           (first
           (first (elim (adds || drops) [ true ↦ 0 | false ↦ 7 ]) (elim inside [ false ↦ 8 | true ↦ elim same [ true ↦ 9 | false ↦ 0 ] ]))
-          (first
-          (elim linked [ true ↦ elim adds [ true ↦ 10 | false ↦ 0 ] | false ↦ elim drops [ true ↦ 11 | false ↦ 0 ] ])
-          (elim few [ true ↦ 12 | false ↦ 0 ])))
+          (elim linked [ true ↦ elim adds [ true ↦ 10 | false ↦ 0 ] | false ↦ elim drops [ true ↦ 11 | false ↦ 0 ] ]))
           (elim (adds || drops) [
             | false ↦ 7
             | true ↦ elim inside [
               | false ↦ 8
               | true ↦ elim same [
                 | true ↦ 9
-                | false ↦ elim (adds && linked) [
-                  | true ↦ 10
-                  | false ↦ elim (drops && not linked) [ true ↦ 11 | false ↦ elim few [ true ↦ 12 | false ↦ 0 ] ]
-                ]
+                | false ↦ elim (adds && linked) [ true ↦ 10 | false ↦ elim (drops && not linked) [ true ↦ 11 | false ↦ 0 ] ]
               ]
             ]
           ])
-      go false false i s t f = refl
-      go true d false s t f = refl
-      go true d true true t f = refl
-      go true d true false true f = refl
-      go true true true false false f = refl
-      go true false true false false f = refl
-      go false true false s t f = refl
-      go false true true true t f = refl
-      go false true true false true f = refl
-      go false true true false false f = refl
+      go false false i s t = refl
+      go true d false s t = refl
+      go true d true true t = refl
+      go true d true false true = refl
+      go true true true false false = refl
+      go true false true false false = refl
+      go false true false s t = refl
+      go false true true true t = refl
+      go false true true false true = refl
+      go false true true false false = refl
 
 -- whether the edge is there, as the bytes have it
 pub edge-held : {S : Shape} {bs : List ℕ} → Held S bs → (a b : ℕ) → (a < read S bs .n) × (b < read S bs .n) × (a ≢ b)
@@ -113,12 +105,3 @@ edge-held {S} h a b e =
     let la : a < S .most = held-small h a (e .0) in
     let lb : b < S .most = held-small h b (e .1) in
     ap₂ _||_ (held-owns h a b la lb) (held-owns h b a lb la)
-
--- the number of the words
-pub words-few : (n : ℕ) (words : List ℕ) → length words < n / 2 → wordsNumber n words ≡ 12
-unfolding wordsNumber
-words-few n words l = rw (leb-yes (suc (length words)) (n / 2) l, wordsNumber) refl
-
-pub words-enough : (n : ℕ) (words : List ℕ) → n / 2 ≤ length words → wordsNumber n words ≡ 0
-unfolding wordsNumber
-words-enough n words l = rw (leb-no (suc (length words)) (n / 2) (omega arith), wordsNumber) refl

@@ -3,21 +3,28 @@ use mathlib.Core.Path.{_≡_, refl, sym, ap, _∙_, subst}
 use mathlib.Core.Logic.{_≢_, inl, inr}
 use mathlib.Core.Bool.{true, false}
 use mathlib.Core.List.{List}
-use Prim.Native.Nat.{ℕ, suc, _<_}
+use Prim.Native.Nat.{ℕ, suc, _≤_, _<_}
 use native.Mathlib.Omega.{arith}
 use lib.Dec.{T}
+use lib.ListN.{length}
 use Rattle.model.specs.Shape.{Shape}
-use Rattle.model.specs.State.{base, State, edge, pending}
+use Rattle.model.specs.State.{base, State, edge, edges, pending}
 use Rattle.model.specs.Bytes.{mateAt, read, write, mateEntry}
-use Rattle.model.specs.Moves.{none, found, promote, settle}
-use Rattle.model.specs.Change.{start, startParted, reown, withoutEdge, addEdge, riser, add, drop}
-use Rattle.model.proofs.Tests.{eqb-yes, eqb-no}
+use Rattle.model.specs.Moves.{Run, none, found, promote, settle}
+use Rattle.model.specs.Change.{start, startParted, reown, addEdge, riser, add, drop}
+use Rattle.model.proofs.Tests.{T-true, eqb-yes, eqb-no}
 use Rattle.theory.specs.Waiting.{marks, Paired}
+use Rattle.theory.specs.Quick.{Quick}
+use Rattle.theory.proofs.Matching.{base-pos}
+use Rattle.theory.proofs.ChangeStep.{add-quick, drop-quick}
 use Rattle.moves.specs.Proper.{Proper, Ordered, Held}
 use Rattle.moves.proofs.Held.{held-of, held-small, held-mate, reads-as, valid-proper, valid-ordered}
-use Rattle.edges.proofs.Changed.{add-size, add-proper, drop-proper}
+use Rattle.edges.proofs.Changed.{dropEdge, add-size, add-proper, add-joined, drop-proper}
+use Rattle.edges.proofs.Undone.{undone}
 use Rattle.settling.specs.declared.tally.Tally.{Tally}
 use Rattle.changes.specs.Sounded.{Sounded, Begun, Liftable, Ended}
+use Rattle.changes.specs.Working.{Joins, workRun, Tried, Enough}
+use Rattle.changes.specs.declared.working.Work.the-variants.{Rise, Part}
 use Rattle.changes.proofs.Begun.{still, add-still, add-ordered, drop-ordered, Riser, riser-of, valid-paired, add-paired, entry-names, entry-not}
 use Rattle.changes.proofs.Chains.{Fresh}
 
@@ -56,13 +63,30 @@ module _ {S : Shape} {bs₀ : List ℕ} {a b : ℕ} {bs : List ℕ} (x : Added S
       let k : read S bs .n ≡ read S bs₀ .n = ap (λ (s : State). s .n) added-read ∙ add-size a b (read S bs₀) in
       (omega (arith, x .ends .0), omega (arith, x .ends .1))
 
+  -- taken out again, it leaves the rack as it was
+  added-undone : {bs′ : List ℕ} → bs′ ≡ write (dropEdge a b (read S bs)) → bs′ ≡ bs₀
+  added-undone e =
+      e ∙ ap (λ (s : State). write (dropEdge a b s)) added-read
+      ∙ ap write (undone a b (read S bs₀) (λ h. subst T (x .ends .3) h)) ∙ sym (x .from .written)
+
+  added-there : edge (read S bs) a b ≡ true
+  added-there =
+      let j = add-joined a b (read S bs₀) (x .ends .2) (x .ends .0, x .ends .1) (λ h. subst T (x .ends .3) h) in
+      ap (λ (s : State). edge s a b) added-read ∙ T-true (j .there)
+
+  pub added-drops : {bs′ : List ℕ} → bs′ ≡ bs
+      → Held S bs′ × ((a < read S bs′ .n) × (b < read S bs′ .n) × (a ≢ b) × (edge (read S bs′) a b ≡ true))
+  added-drops e =
+      subst (λ (l : List ℕ). Held S l × ((a < read S l .n) × (b < read S l .n) × (a ≢ b) × (edge (read S l) a b ≡ true))) (sym e)
+      (added-begun .held, (added-inside .0, added-inside .1, x .ends .2, added-there))
+
   -- no level is reached: finished
-  pub added-none : (words : List ℕ) → riser base a b (suc (base .top)) (read S bs) ≡ none → {t : Tally}
-      → Fresh t → Ended (add base words a b (read S bs₀)) bs t
+  pub added-none : (words : List ℕ) → riser base a b (suc (base .top)) (read S bs) ≡ none → {t : Tally} → Fresh t
+      → Tried (add base words a b (read S bs₀)) words bs₀ bs t
   unfolding add start
   added-none words f z =
       rw (subst (λ (s : State). riser base a b (suc (base .top)) s ≡ none) added-read f, add)
-      (record { rack = x .rack; draws = z .0; falls = z .1 })
+      (record { draws = z .0; falls = z .1; made = λ h. x .rack; kept = λ h. absurd (omega (arith, z .0)) })
 
   -- the riser is promoted, and the settling follows
   module _ {i u : ℕ} (f : riser base a b (suc (base .top)) (read S bs) ≡ found i u) where
@@ -76,36 +100,54 @@ module _ {S : Shape} {bs₀ : List ℕ} {a b : ℕ} {bs : List ℕ} (x : Added S
           some = r .some;
         }
 
-    pub added-found : (words : List ℕ) {bs′ : List ℕ} {t : Tally}
-        → Ended (settle base words (promote words i u (start (read S bs)))) bs′ t → Ended (add base words a b (read S bs₀)) bs′ t
+    added-is : (words : List ℕ) → add base words a b (read S bs₀) ≡ workRun words (Rise i u) (read S bs)
     unfolding add
-    added-found words {bs′} {t} r =
+    added-is words =
         rw (subst (λ (s : State). riser base a b (suc (base .top)) s ≡ found i u) added-read f, add)
-        (subst (λ (s : State). Ended (settle base words (promote words i u (start s))) bs′ t) added-read r)
+        (ap (λ (s : State). settle base words (promote words i u (start s))) (sym added-read))
+
+    -- words that are sure to suffice
+    pub added-enough : (words : List ℕ) → Enough true (read S bs) words → workRun words (Rise i u) (read S bs) .draws ≤ length words
+    added-enough words q =
+        let n : read S bs .n ≡ read S bs₀ .n = ap (λ (s : State). s .n) added-read ∙ add-size a b (read S bs₀) in
+        let few = add-quick base base-pos (read S bs₀) (x .from .valid) words a b (x .ends .0) (x .ends .1) (x .ends .2) (λ h. subst T (x .ends .3) h)
+        (subst (λ (m : ℕ). Quick m (edges (addEdge a b (read S bs₀))) words) n (subst (λ (s : State). Quick (read S bs .n) (edges s) words) added-read q)) in
+        omega (arith, few, ap (λ (r : Run). r .draws) (added-is words))
+
+    -- it is made, or the edge is taken out again
+    module _ (words : List ℕ) {bs′ : List ℕ} {t : Tally} (r : Tried (workRun words (Rise i u) (read S bs)) words bs bs′ t) where
+      pub added-made : t .draws ≤ length words → Tried (add base words a b (read S bs₀)) words bs₀ bs′ t
+      added-made h = rw (added-is words) (record { draws = r .draws; falls = r .falls; made = r .made; kept = λ l. absurd (omega arith) })
+
+      pub added-back : length words < t .draws → {back : List ℕ} → back ≡ write (dropEdge a b (read S bs′))
+          → Tried (add base words a b (read S bs₀)) words bs₀ back t
+      added-back h e = rw (added-is words) (record {
+        draws = r .draws;
+        falls = r .falls;
+        made = λ l. absurd (omega arith);
+        kept = λ l. added-undone (e ∙ ap (λ (l : List ℕ). write (dropEdge a b (read S l))) (r .kept h));
+      })
 
 -- ---- drop: the bytes bs without the edge a-b, which was there in bs₀
-abbrev without : State → ℕ → ℕ → State
-without s a b = reown s (withoutEdge (s .owns) a b)
-
 pub record Dropped (S : Shape) (bs₀ : List ℕ) (a b : ℕ) (bs : List ℕ) : Type 0 where
   pub from : Sounded S bs₀
   pub ends : (a < read S bs₀ .n) × (b < read S bs₀ .n) × (a ≢ b) × (edge (read S bs₀) a b ≡ true)
-  pub rack : bs ≡ write (without (read S bs₀) a b)
+  pub rack : bs ≡ write (dropEdge a b (read S bs₀))
 
 module _ {S : Shape} {bs₀ : List ℕ} {a b : ℕ} {bs : List ℕ} (x : Dropped S bs₀ a b bs) where
-  dropped-proper : Proper S (without (read S bs₀) a b)
+  dropped-proper : Proper S (dropEdge a b (read S bs₀))
   dropped-proper = drop-proper a b (read S bs₀) (sounded-proper bs₀ (x .from))
 
-  dropped-read : read S bs ≡ without (read S bs₀) a b
-  dropped-read = reads-as bs (without (read S bs₀) a b) (x .rack) dropped-proper
+  dropped-read : read S bs ≡ dropEdge a b (read S bs₀)
+  dropped-read = reads-as bs (dropEdge a b (read S bs₀)) (x .rack) dropped-proper
 
   pub dropped-begun : Begun S bs
   unfolding reown
   dropped-begun = record {
-    held = held-of bs (without (read S bs₀) a b) (x .rack) dropped-proper;
+    held = held-of bs (dropEdge a b (read S bs₀)) (x .rack) dropped-proper;
     ordered = subst Ordered (sym dropped-read) (drop-ordered (read S bs₀) a b (valid-ordered (read S bs₀) (x .from .valid)));
     paired = subst (λ (s : State). Paired (s .n) (marks s)) (sym dropped-read) (valid-paired (read S bs₀) (x .from .valid));
-    still = λ v i t. still (without (read S bs₀) a b) (x .from .valid .free-low) v i
+    still = λ v i t. still (dropEdge a b (read S bs₀)) (x .from .valid .free-low) v i
         (subst (λ (s : State). T (pending s i v)) dropped-read t);
   }
 
@@ -120,30 +162,53 @@ module _ {S : Shape} {bs₀ : List ℕ} {a b : ℕ} {bs : List ℕ} (x : Dropped
       let h : Held S bs = dropped-begun .held in
       (held-small h a (dropped-inside .0), held-small h b (dropped-inside .1))
 
+  -- the edge of a pair: parted, and the settling follows
+  pub dropped-mates : read S bs₀ .mate a ≡ b → read S bs .mate a ≡ b
+  unfolding reown
+  dropped-mates m = ap (λ (s : State). s .mate a) dropped-read ∙ m
+
+  pub dropped-pair : (words : List ℕ) {bs′ : List ℕ} {t : Tally} → Ended (settle base words (startParted a b (read S bs))) bs′ t
+      → Ended (workRun words (Part a b) (read S bs₀)) bs′ t
+  dropped-pair words {bs′} {t} r = subst (λ (s : State). Ended (settle base words (startParted a b s)) bs′ t) dropped-read r
+
+  -- a loose edge: no level changes
+  pub dropped-loose : (words : List ℕ) → read S bs₀ .mate a ≢ b → {t : Tally} → Fresh t → Tried (drop base words a b (read S bs₀)) words bs₀ bs t
+  unfolding drop start
+  dropped-loose words d z =
+      rw (eqb-no (read S bs₀ .mate a) b d, drop)
+      (record { draws = z .0; falls = z .1; made = λ h. x .rack; kept = λ h. absurd (omega (arith, z .0)) })
+
+-- ---- a drop, before its edge is taken out: whether it joins mates
+module _ {S : Shape} {bs : List ℕ} (ok : Sounded S bs) {a b : ℕ} (ends : (a < read S bs .n) × (b < read S bs .n) × (a ≢ b) × (edge (read S bs) a b ≡ true))
+    where
   -- the entry of a's mate, once it is read
   module _ {k : ℕ} (m : k ≡ mateAt S bs a) where
+    held : Held S bs
+    held = sounded-held bs ok
+
     entry : k ≡ mateEntry (read S bs) a
-    entry = m ∙ held-mate (dropped-begun .held) a (dropped-small .0)
+    entry = m ∙ held-mate held a (held-small held a (ends .0))
 
-    same-mate : read S bs .mate a ≡ read S bs₀ .mate a
-    unfolding reown
-    same-mate = ap (λ (s : State). s .mate a) dropped-read
+    pub joins : k ≡ b → Joins (read S bs) a b
+    joins e = record {
+      ends = ends;
+      mates = entry-names (read S bs) a b (ends .2) (omega (arith, held-small held b (ends .1), ok .good .named)) (sym entry ∙ e);
+    }
 
-    pub dropped-mates : k ≡ b → read S bs .mate a ≡ b
-    dropped-mates e = entry-names (read S bs) a b (x .ends .2) (omega (arith, dropped-small .1, x .from .good .named)) (sym entry ∙ e)
+    pub loose : k ≢ b → read S bs .mate a ≢ b
+    loose d = entry-not (read S bs) a b (ends .2) (λ e. d (entry ∙ e))
 
-    -- a loose edge: no level changes
-    pub dropped-loose : (words : List ℕ) → k ≢ b → {t : Tally} → Fresh t
-        → Ended (drop base words a b (read S bs₀)) bs t
-    unfolding drop start
-    dropped-loose words d z =
-        let no = entry-not (read S bs) a b (x .ends .2) (λ e. d (entry ∙ e)) in
-        rw (eqb-no (read S bs₀ .mate a) b (λ e. no (same-mate ∙ e)), drop) (record { rack = x .rack; draws = z .0; falls = z .1 })
-
-    -- the edge of a pair: parted, and the settling follows
-    pub dropped-pair : (words : List ℕ) → k ≡ b → {bs′ : List ℕ} {t : Tally}
-        → Ended (settle base words (startParted a b (read S bs))) bs′ t → Ended (drop base words a b (read S bs₀)) bs′ t
+  module _ (words : List ℕ) (j : Joins (read S bs) a b) where
+    pair-is : drop base words a b (read S bs) ≡ workRun words (Part a b) (read S bs)
     unfolding drop
-    dropped-pair words e {bs′} {t} r =
-        rw (eqb-yes (read S bs₀ .mate a) b (sym same-mate ∙ dropped-mates e), drop)
-        (subst (λ (s : State). Ended (settle base words (startParted a b s)) bs′ t) dropped-read r)
+    pair-is = rw (eqb-yes (read S bs .mate a) b (j .mates), drop) refl
+
+    -- words that are sure to suffice
+    pub pair-enough : Enough true (read S bs) words → workRun words (Part a b) (read S bs) .draws ≤ length words
+    pair-enough q =
+        let few = drop-quick base base-pos (read S bs) (ok .valid) words a b (ends .0) (ends .1) (ends .2) q in
+        omega (arith, few, ap (λ (r : Run). r .draws) pair-is)
+
+    pub pair-tried : {bs′ : List ℕ} {t : Tally} → Tried (workRun words (Part a b) (read S bs)) words bs bs′ t
+        → Tried (drop base words a b (read S bs)) words bs bs′ t
+    pair-tried r = rw pair-is r

@@ -1,2 +1,3 @@
 -- The definitions that the contracts of `changes` cite.
 pub mod Sounded
+pub mod Working

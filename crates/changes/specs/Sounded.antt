@@ -3,11 +3,10 @@ use mathlib.Core.Path.{_≡_}
 use mathlib.Core.Logic.{_≢_}
 use mathlib.Core.Bool.{Bool, true, false, _&&_, _||_}
 use mathlib.Core.List.{List}
-use Prim.Native.Nat.{ℕ, zero, suc, _/_, _≤_, _<_}
+use Prim.Native.Nat.{ℕ, zero, suc, _≤_, _<_}
 use lib.Dec.{T, eqb, ltb}
-use lib.ListN.{length}
 use Rattle.model.specs.Shape.{Shape, GoodShape}
-use Rattle.model.specs.State.{base, State, edge, below, pending}
+use Rattle.model.specs.State.{base, State, edge, below, pending, pairs}
 use Rattle.model.specs.Bytes.{read, write}
 use Rattle.model.specs.Valid.{Valid}
 use Rattle.model.specs.Moves.{Run}
@@ -65,6 +64,10 @@ pub record Answers (r : Answer) (x : AnswerOf) : Type 0 where
   pub falls : r .falls ≡ x .falls
   pub pairs : r .pairs ≡ x .pairs
 
+-- what is answered of an accepted change that came to the tally t and left the state s
+abbrev pub figures : Tally → State → AnswerOf
+figures t s = record { number = 0; draws = t .draws; falls = t .falls; pairs = pairs s }
+
 -- a change by what a call brings
 abbrev pub brought : ℕ → ℕ → ℕ → List ℕ → Change
 brought code a b words = record { code = code; a = a; b = b; words = words }
@@ -83,10 +86,6 @@ linkNumber code there = elim there [
   | true ↦ elim (eqb code 1) [ true ↦ 10 | false ↦ 0 ]
   | false ↦ elim (eqb code 2) [ true ↦ 11 | false ↦ 0 ]
 ]
-
--- 12, or 0
-unfoldable pub wordsNumber : ℕ → List ℕ → ℕ
-wordsNumber n words = elim (ltb (length words) (n / 2)) [ true ↦ 12 | false ↦ 0 ]
 
 -- the first of two numbers that is not 0, or 0
 unfoldable pub first : ℕ → ℕ → ℕ

@@ -2,20 +2,25 @@
 ghost use mathlib.Core.Path.{_≡_};
 ghost use mathlib.Core.Logic.{_≢_};
 ghost use mathlib.Core.Bool.{true, false};
+ghost use mathlib.Core.List.{[]};
 ghost use Prim.Native.Nat.{_<_};
 ghost use Rattle.model.specs.Shape.{low};
 ghost use Rattle.model.specs.State.{base, edge, pairs as pairsOf};
 ghost use Rattle.model.specs.Bytes.{read, write};
-ghost use Rattle.model.specs.Moves.{promote as promoted, settle as settled};
-ghost use Rattle.model.specs.Change.{start, startParted, lower as lowerOf, upper as upperOf, add as added, drop as dropped, number as numberOf, change as changeOf};
+ghost use Rattle.model.specs.Change.{lower as lowerOf, upper as upperOf, add as added, drop as dropped, early, refused as refusedOf, change as changeOf};
 ghost use Rattle.moves.specs.Proper.{Held};
-ghost use Rattle.changes.specs.Sounded.{Sounded, Begun, Liftable, Acceptable, acceptedRun, Ended, Answers, brought, codeNumber, endsNumber, linkNumber, wordsNumber, first as firstOf};
+ghost use Rattle.changes.specs.Working.{Tried};
+ghost use Rattle.changes.specs.Sounded.{Sounded, Acceptable, acceptedRun, Answers, brought, figures, codeNumber, endsNumber, linkNumber, first as firstOf};
+
+pub mod working;
+
 use settling::tally::Tally;
+use working::Work;
 
 // "A change answers 0, its draws, its falls (moves down by one level) and the pairs then held."
 pub struct Answer {
     pub number: u32,
-    pub draws: u32,
+    pub draws: u64,
     pub falls: u32,
     pub pairs: u32,
 }
@@ -73,16 +78,6 @@ fn link_number(code: u32, there: bool) -> u32
     0
 }
 
-// "12. Fewer words are lent than n div 2.", or 0.
-fn words_number(n: usize, words: &[u32]) -> u32
-    ensures { λ r. ⌜ r ≡ wordsNumber n (now (words .entry)) ⌝ }
-{
-    if words.len() < n / 2 {
-        return 12;
-    }
-    0
-}
-
 // The first of two numbers that is not 0, or 0.
 fn first(x: u32, y: u32) -> u32
     ensures { λ r. ⌜ r ≡ firstOf x y ⌝ }
@@ -93,10 +88,10 @@ fn first(x: u32, y: u32) -> u32
     y
 }
 
-// The first of 7 to 12 that fits a change, or 0. The edge is looked for only if the boards named are two of the rack's.
-fn number(rack: &[u8], code: u32, a: u32, b: u32, words: &[u32]) -> u32
+// The first of 7 to 11 that fits a change, or 0: the words have no say. The edge is looked for only if the boards named are two of the rack's.
+fn number(rack: &[u8], code: u32, a: u32, b: u32) -> u32
     requires { ⌜ Held low (now rack) ⌝ }
-    ensures { λ r. ⌜ r ≡ numberOf (read low (now (rack .entry)) .n) (edge (read low (now (rack .entry)))) (brought code a b (now (words .entry))) ⌝ }
+    ensures { λ r. ⌜ r ≡ early (read low (now (rack .entry)) .n) (edge (read low (now (rack .entry)))) (brought code a b []) ⌝ }
 {
     let n = layout::size(rack);
     let by_code = code_number(code);
@@ -106,58 +101,36 @@ fn number(rack: &[u8], code: u32, a: u32, b: u32, words: &[u32]) -> u32
         return named;
     }
     let there = layout::linked(rack, a as usize, b as usize);
-    let by_link = link_number(code, there);
-    let by_words = words_number(n, words);
-    first(by_link, by_words)
+    link_number(code, there)
 }
 
-// An add of an edge that is not there: a is the lower number.
+// An add of an edge that is not there: a is the lower number. If its words run out, the edge is taken out again.
 fn add(rack: &mut [u8], a: usize, b: usize, words: &[u32]) -> Tally
     requires { ⌜ Sounded low (now rack) ⌝ }
     requires { ⌜ (a < read low (now rack) .n) × (b < read low (now rack) .n) × (a ≢ b) × (edge (read low (now rack)) a b ≡ false) ⌝ }
-    ensures { λ r. ⌜ Ended (added base (now (words .entry)) a b (read low (now (rack .entry)))) (now (rack .exit)) r ⌝ }
+    ensures { λ r. ⌜ Tried (added base (now (words .entry)) a b (read low (now (rack .entry)))) (now (words .entry)) (now (rack .entry)) (now (rack .exit)) r ⌝ }
 {
     edges::add_edge(rack, a, b);
     let edges::Reached::At { i, u } = edges::riser(rack, a, b) else {
         return Tally::new();
     };
-    promote_and_settle(rack, u, i, words)
+    let t = working::within(rack, Work::Rise { i, u }, words);
+    if (words.len() as u64) < t.draws {
+        edges::drop_edge(rack, a, b);
+    }
+    t
 }
 
-// "The riser's pair, if any, is parted; it rises, it draws, the settling follows."
-fn promote_and_settle(rack: &mut [u8], u: usize, i: usize, words: &[u32]) -> Tally
-    requires { ⌜ Begun low (now rack) ⌝ }
-    requires { ⌜ Liftable (read low (now rack)) i u ⌝ }
-    ensures { λ r. ⌜ Ended (settled base (now (words .entry)) (promoted (now (words .entry)) i u (start (read low (now (rack .entry)))))) (now (rack .exit)) r ⌝ }
-{
-    let mut queue = layout::places();
-    let t = settling::promote(rack, &mut queue, words, u, i, Tally::new());
-    settling::settle(rack, &mut queue, words, t)
-}
-
-// "part them and settle": a's mate is b. "Parting by a drop puts the lower number first.", which is a.
-fn part_and_settle(rack: &mut [u8], a: usize, b: usize, words: &[u32]) -> Tally
-    requires { ⌜ Begun low (now rack) ⌝ }
-    requires { ⌜ (a < read low (now rack) .n) × (b < read low (now rack) .n) × (a ≢ b) × (read low (now rack) .mate a ≡ b) ⌝ }
-    ensures { λ r. ⌜ Ended (settled base (now (words .entry)) (startParted a b (read low (now (rack .entry))))) (now (rack .exit)) r ⌝ }
-{
-    let mut queue = layout::places();
-    let first = settling::join(&mut queue, a, Tally::new());
-    let both = settling::join(&mut queue, b, first);
-    moves::part(rack, a);
-    settling::settle(rack, &mut queue, words, both)
-}
-
-// A drop of an edge that is there: a is the lower number. "If its ends were mates, part them and settle."
+// A drop of an edge that is there: a is the lower number. "If its ends were mates, part them and settle. Otherwise no level changes."
 fn drop(rack: &mut [u8], a: usize, b: usize, words: &[u32]) -> Tally
     requires { ⌜ Sounded low (now rack) ⌝ }
     requires { ⌜ (a < read low (now rack) .n) × (b < read low (now rack) .n) × (a ≢ b) × (edge (read low (now rack)) a b ≡ true) ⌝ }
-    ensures { λ r. ⌜ Ended (dropped base (now (words .entry)) a b (read low (now (rack .entry)))) (now (rack .exit)) r ⌝ }
+    ensures { λ r. ⌜ Tried (dropped base (now (words .entry)) a b (read low (now (rack .entry)))) (now (words .entry)) (now (rack .entry)) (now (rack .exit)) r ⌝ }
 {
-    edges::drop_edge(rack, a, b);
     if layout::mate(rack, a) as usize == b {
-        return part_and_settle(rack, a, b, words);
+        return working::within(rack, Work::Part { a, b }, words);
     }
+    edges::drop_edge(rack, a, b);
     Tally::new()
 }
 
@@ -181,11 +154,11 @@ fn upper(a: usize, b: usize) -> usize
     b
 }
 
-// A change that none of the numbers fits.
+// The moves of a change that none of 7 to 11 fits, if its words suffice.
 fn accepted(rack: &mut [u8], code: u32, a: usize, b: usize, words: &[u32]) -> Tally
     requires { ⌜ Sounded low (now rack) ⌝ }
     requires { ⌜ Acceptable (read low (now rack)) code a b ⌝ }
-    ensures { λ r. ⌜ Ended (acceptedRun (read low (now (rack .entry))) (brought code a b (now (words .entry)))) (now (rack .exit)) r ⌝ }
+    ensures { λ r. ⌜ Tried (acceptedRun (read low (now (rack .entry))) (brought code a b (now (words .entry)))) (now (words .entry)) (now (rack .entry)) (now (rack .exit)) r ⌝ }
 {
     let low = lower(a, b);
     let high = upper(a, b);
@@ -195,26 +168,44 @@ fn accepted(rack: &mut [u8], code: u32, a: usize, b: usize, words: &[u32]) -> Ta
     drop(rack, low, high, words)
 }
 
-// One change of a sound rack, without the audit.
-pub fn change(rack: &mut [u8], code: u32, a: u32, b: u32, words: &[u32]) -> Answer
-    requires { ⌜ Sounded low (now rack) ⌝ }
-    ensures answers { λ r. ⌜ Answers r (changeOf base (read low (now (rack .entry))) (brought code a b (now (words .entry))) .answer) ⌝ }
-    ensures leaves { λ _. ⌜ now (rack .exit) ≡ write (changeOf base (read low (now (rack .entry))) (brought code a b (now (words .entry))) .state) ⌝ }
+// "The answer is the number, with all other figures 0"
+fn refused(number: u32) -> Answer
+    ensures { λ r. ⌜ Answers r (refusedOf number) ⌝ }
 {
-    let refused = number(rack, code, a, b, words);
-    if refused != 0 {
-        return Answer {
-            number: refused,
-            draws: 0,
-            falls: 0,
-            pairs: 0,
-        };
+    Answer {
+        number,
+        draws: 0,
+        falls: 0,
+        pairs: 0,
     }
-    let t = accepted(rack, code, a as usize, b as usize, words);
+}
+
+// What an accepted change answers, from the rack after it.
+fn done(rack: &[u8], t: Tally) -> Answer
+    requires { ⌜ Sounded low (now rack) ⌝ }
+    ensures { λ r. ⌜ Answers r (figures t (read low (now (rack .entry)))) ⌝ }
+{
     Answer {
         number: 0,
         draws: t.draws,
         falls: t.falls,
         pairs: pairs(rack),
     }
+}
+
+// One change of a sound rack, without the audit: the first of 7 to 12 that fits, or what was done.
+pub fn change(rack: &mut [u8], code: u32, a: u32, b: u32, words: &[u32]) -> Answer
+    requires { ⌜ Sounded low (now rack) ⌝ }
+    ensures answers { λ r. ⌜ Answers r (changeOf base (read low (now (rack .entry))) (brought code a b (now (words .entry))) .answer) ⌝ }
+    ensures leaves { λ _. ⌜ now (rack .exit) ≡ write (changeOf base (read low (now (rack .entry))) (brought code a b (now (words .entry))) .state) ⌝ }
+{
+    let k = number(rack, code, a, b);
+    if k != 0 {
+        return refused(k);
+    }
+    let t = accepted(rack, code, a as usize, b as usize, words);
+    if t.draws <= words.len() as u64 {
+        return done(rack, t);
+    }
+    refused(12)
 }

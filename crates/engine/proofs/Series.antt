@@ -10,13 +10,13 @@ use Rattle.model.specs.Sound.{sound}
 use Rattle.model.specs.Valid.{IsBytes}
 use Rattle.model.specs.Calls.{sized, changeBytes}
 use Rattle.model.specs.Ledger.{Ledger, ledgerOf, entered, enteredAll}
-use Rattle.theory.specs.Demand.{lastRack, Call, Calls, Demand}
+use Rattle.theory.specs.Demand.{lastRack, toldOf, toldAll, Call, Calls, Demand}
 use Rattle.model.proofs.Shapes.{low-good, low-room}
 use Rattle.theory.specs.Rosters.{Rosters}
 use Rattle.theory.proofs.ListTheorem.{demand-three}
 use Rattle.theory.proofs.Rosters.{rosters-of}
 use Rattle.engine.specs.Answers.{ChangeIs}
-use Rattle.engine.specs.Series.{CallMade, Series, asked, left, gave, Right, SeriesDemand}
+use Rattle.engine.specs.Series.{CallMade, Series, asked, tellings, left, gave, Right, SeriesDemand}
 
 -- a call that meets the contract gave what the definition gives
 gave-is : (S : Shape) (bs : List ℕ) (d : CallMade) → ChangeIs S bs (d .change) (d .answer) (d .after) → changeBytes base S bs (d .change) ≡ gave S bs d
@@ -34,13 +34,14 @@ gave-is S bs d h = λ i. record {
 
 -- a series that meets the contract call by call is one of the definition's
 kept : (S : Shape) (l : Ledger) (bs : List ℕ) (ds : List CallMade) → Series S bs ds → Demand S l bs (asked ds) → SeriesDemand S l bs ds
-unfolding Series asked left Right Calls lastRack enteredAll
+unfolding Series asked tellings left Right Calls lastRack toldAll enteredAll
 kept S l bs [] h p = record { calls = tt; last = p .last }
 kept S l bs (d ∷ ds) h p =
     let e : changeBytes base S bs (d .change) .rack ≡ d .after = sym (h .0 .leaves) in
-    let next : Demand S (entered l (d .change)) (d .after) (asked ds) = subst (λ (x : List ℕ). Demand S (entered l (d .change)) x (asked ds)) e
-    (record { calls = p .calls .1; last = p .last }) in
-    let rest : SeriesDemand S (entered l (d .change)) (d .after) ds = kept S (entered l (d .change)) (d .after) ds (h .1) next in
+    let then : Ledger = entered l (toldOf S bs (d .change)) in
+    let next : Demand S then (d .after) (asked ds) =
+    subst (λ (x : List ℕ). Demand S then x (asked ds)) e (record { calls = p .calls .1; last = p .last }) in
+    let rest : SeriesDemand S then (d .after) ds = kept S then (d .after) ds (h .1) next in
     record {
       calls = (subst (Call S l bs (d .change)) (gave-is S bs d (h .0)) (p .calls .0), rest .calls);
       last = rest .last;
@@ -58,5 +59,5 @@ demand-three-of-change = demand-three-of-series low low-good low-room
 
 -- W-205: and so the rosters are the levels, whatever calls were made.
 pub rosters-of-change : (bs : List ℕ) → IsBytes bs → T (sized low bs) → T (sound base low bs)
-    → (ds : List CallMade) → Series low bs ds → Rosters low (enteredAll (ledgerOf low bs) (asked ds)) (left bs ds)
+    → (ds : List CallMade) → Series low bs ds → Rosters low (enteredAll (ledgerOf low bs) (tellings low bs ds)) (left bs ds)
 rosters-of-change bs by sz so ds h = rosters-of low-room (demand-three-of-change bs by sz so ds h .last)

@@ -6,8 +6,8 @@ use Rattle.model.specs.Shape.{Shape}
 use Rattle.model.specs.State.{base}
 use Rattle.model.specs.Change.{Change}
 use Rattle.model.specs.Calls.{ChangedBytes, changeBytes}
-use Rattle.model.specs.Ledger.{Ledger, entered, enteredAll}
-use Rattle.theory.specs.Demand.{Call, Facts}
+use Rattle.model.specs.Ledger.{Ledger, Told, entered, enteredAll}
+use Rattle.theory.specs.Demand.{toldOf, Call, Facts}
 use Rattle.changes.specs.declared.Answer.{Answer}
 use Rattle.engine.specs.Answers.{ChangeIs}
 
@@ -22,11 +22,17 @@ unfoldable pub Series : Shape → List ℕ → List CallMade → Type 0
 Series S bs [] = Unit
 Series S bs (d ∷ ds) = ChangeIs S bs (d .change) (d .answer) (d .after) × Series S (d .after) ds
 
--- the changes that were asked for, and the bytes after the last call
+-- the changes that were asked for
 unfoldable pub asked : List CallMade → List Change
 asked [] = []
 asked (d ∷ ds) = d .change ∷ asked ds
 
+-- what the ledger is told of them: each on the rack that the one before it left
+unfoldable pub tellings : Shape → List ℕ → List CallMade → List Told
+tellings S bs [] = []
+tellings S bs (d ∷ ds) = toldOf S bs (d .change) ∷ tellings S (d .after) ds
+
+-- the bytes after the last call
 unfoldable pub left : List ℕ → List CallMade → List ℕ
 left bs [] = bs
 left bs (d ∷ ds) = left (d .after) ds
@@ -42,9 +48,9 @@ gave S bs d = record {
 -- each call gave what demand 3 says of a call, by the ledger as it then stands
 unfoldable pub Right : Shape → Ledger → List ℕ → List CallMade → Type 0
 Right S l bs [] = Unit
-Right S l bs (d ∷ ds) = Call S l bs (d .change) (gave S bs d) × Right S (entered l (d .change)) (d .after) ds
+Right S l bs (d ∷ ds) = Call S l bs (d .change) (gave S bs d) × Right S (entered l (toldOf S bs (d .change))) (d .after) ds
 
 -- demand 3 of the calls made
 pub record SeriesDemand (S : Shape) (l : Ledger) (bs : List ℕ) (ds : List CallMade) : Type 0 where
   pub calls : Right S l bs ds
-  pub last : Facts S (enteredAll l (asked ds)) (left bs ds)
+  pub last : Facts S (enteredAll l (tellings S bs ds)) (left bs ds)

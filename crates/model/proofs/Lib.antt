@@ -19,6 +19,9 @@ pub mod Table
 pub mod Bench
 pub mod Hands
 pub mod Order
+pub mod Deciding
+pub mod Fair
+pub mod Passes
 pub mod Mean
 pub mod Example
 pub mod RosterBytes

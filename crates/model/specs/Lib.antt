@@ -8,6 +8,7 @@ pub mod State
 pub mod Bytes
 pub mod Sound
 pub mod Valid
+pub mod Words
 pub mod Moves
 pub mod Change
 pub mod Calls

@@ -1,11 +1,12 @@
--- Document 01, "Elementary moves" and "The settling", with the queues of document 02, W-203. A level i is a number from 0 on; a vertex at
--- level i has rank i + 1. Assumes nothing.
+-- Document 01, "Elementary moves" and "The settling", with the queues of document 02, W-203, and its fair draws, W-206. A level i is a number
+-- from 0 on; a vertex at level i has rank i + 1. Assumes nothing.
 use mathlib.Core.Bool.{Bool, true, false, not, _&&_}
 use mathlib.Core.List.{List, [], _∷_, _++_}
-use Prim.Native.Nat.{ℕ, zero, suc, _*_, _%_}
+use Prim.Native.Nat.{ℕ, zero, suc, _*_}
 use lib.Dec.{eqb, leb}
 use lib.ListN.{length, getD}
 use Rattle.model.specs.Counting.{listed, upd}
+use Rattle.model.specs.Words.{deciding, place}
 use Rattle.model.specs.State.{Rules, State, near, below, phi, free}
 
 -- two vertices, as the ends of an edge or a new pair
@@ -61,31 +62,30 @@ rise i u s = record { kind = s .kind; n = s .n; rank = upd (s .rank) u (suc i); 
 unfoldable pub marry : ℕ → ℕ → State → State
 marry u y s = record { kind = s .kind; n = s .n; rank = s .rank; mate = upd (upd (s .mate) u y) y u; owns = s .owns }
 
--- "the chosen one stands at place (word mod k), places from 0. The next unused word is used.": the place among k, of which `used`
--- words were used before
-unfoldable pub place : List ℕ → ℕ → ℕ → ℕ
-place words used k = getD words used 0 % k
-
--- "list u's neighbours below i by rising number, k of them; the chosen one stands at place (word mod k)"
+-- "list u's neighbours below i by rising number, k of them; the chosen one stands at place (word mod k)" of the word that decides
 unfoldable pub chosen : List ℕ → ℕ → ℕ → Run → ℕ
 chosen words i u r =
     let l = listed (near (r .state) u i) (r .state .n) in
     getD l (place words (r .draws) (length l)) 0
 
+-- "The draws figure counts words used, passed-over ones included": those used once u has drawn at level i
+unfoldable pub spent : List ℕ → ℕ → ℕ → Run → ℕ
+spent words i u r = suc (deciding words (r .draws) (below (r .state) u i))
+
 -- "If the chosen y has a mate, that pair is parted. Then y rises to i, and u and y are mates.": y's former mate waits from now on, behind
--- u's, if u rose for this draw
-unfoldable pub drawn : ℕ → ℕ → ℕ → Run → Run
-drawn i u y r = record {
+-- u's, if u rose for this draw. By then `used` words are used.
+unfoldable pub drawn : ℕ → ℕ → ℕ → ℕ → Run → Run
+drawn i u y used r = record {
   state = marry u y (rise i y (part y (r .state)));
   queues = parting (r .state) y (r .queues);
   news = record { a = u; b = y } ∷ r .news;
-  draws = suc (r .draws);
+  draws = used;
   falls = r .falls;
 }
 
 -- "Draw at u, level i"
 unfoldable pub draw : List ℕ → ℕ → ℕ → Run → Run
-draw words i u r = drawn i u (chosen words i u r) r
+draw words i u r = drawn i u (chosen words i u r) (spent words i u r) r
 
 -- u is parted and rises to i
 abbrev pub lifted : ℕ → ℕ → Run → Run

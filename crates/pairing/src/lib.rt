@@ -25,7 +25,7 @@ pub extern "C" fn pairing_change(
     a: u32,
     b: u32,
     words: &[u32],
-    draws: &mut u32,
+    draws: &mut u64,
     falls: &mut u32,
     pairs: &mut u32,
 ) -> u32

@@ -133,7 +133,7 @@ length-few (bad-line z s w b) = omega arith
 length-few (bad-size z s w h e) = omega arith
 length-few (ran {t} z s w h e) =
     let r = size-range (t .n) e in
-    record-fits-base t (r .0) (r .1) (subst (λ (l : List ℕ). length l ≤ longest) (h .printed) s)
+    record-fits-base t (r .0) (r .1) (h .changes-fit) (subst (λ (l : List ℕ). length l ≤ longest) (h .printed) s)
 
 -- What is printed.
 

@@ -17,14 +17,14 @@ use Rattle.model.specs.Sound.{sizeGood}
 use Rattle.model.specs.Text.{bytes, decimal, over}
 use Rattle.model.specs.Change.{Change, Changed, change}
 use Rattle.model.specs.Calls.{ChangedBytes, changeBytes}
-use Rattle.model.specs.Ledger.{Ledger, links, ledgerNumber, entered, enteredAll}
+use Rattle.model.specs.Ledger.{Ledger, Told, links, ledgerNumber, entered, enteredAll}
 use Rattle.model.specs.Trace.{Trace, rackLine}
 use Rattle.model.specs.Record.{answerLine, pairLine, pairLines, mean, endText, endLine, after, changesText, recordText, blankRecord}
 use Rattle.model.specs.Run.{Ran, rack-length, text-long, space-short, blank, bad-line, bad-size, ran, RunAnswer as AnswerOf}
 use Rattle.model.proofs.Tests.{eq?, le?, true-T, and-intro, and-left, and-right, eqb-yes}
 use Rattle.model.proofs.Chunks.{each-ext, each-none, each-only}
 use Rattle.model.proofs.Lists.{listed-texts}
-use Rattle.theory.specs.Demand.{lastRack, isPair, pairsOf, Mates, Call, Calls, Facts, Demand}
+use Rattle.theory.specs.Demand.{lastRack, toldOf, toldAll, isPair, pairsOf, Mates, Call, Calls, Facts, Demand}
 use Rattle.theory.proofs.ChangeStep.{ledger}
 use Rattle.theory.proofs.OnBytes.{Rack, call-leaves, pairs-of}
 use Rattle.theory.proofs.LastRack.{last-facts}
@@ -38,23 +38,24 @@ use Rattle.moves.proofs.Held.{held-few}
 use Rattle.trace.proofs.RecordFits.{LowValid, low-keeps}
 use Rattle.run.specs.Recording.{pairPart, told}
 use Rattle.run.specs.declared.RunAnswer.{RunAnswer}
-use Rattle.run.specs.RunDemand.{freshLedger, answerBy, changesBy, pairsBy, endingBy, RunDemand, RunDemanded, of-blank, of-trace}
+use Rattle.run.specs.RunDemand.{freshLedger, lastLedger, answerBy, changesBy, pairsBy, endingBy, RunDemand, RunDemanded, of-blank, of-trace}
 use Rattle.run.proofs.Pairs.{shown, left-out, part-free, part-upper, part-line}
 use Rattle.run.proofs.Turns.{rack-of-low, sounded-read}
 use Rattle.run.proofs.Whole.{empty-good}
 
 -- A change's line is the ledger's: refused, it shows the number alone, and accepted, its pairs are the ledger's.
-line-by : {l : Ledger} {bs : List ℕ} {c : Change} {d : ChangedBytes} → Call low l bs c d → answerLine (d .answer) ≡ answerLine (answerBy l c d)
+line-by : {l : Ledger} {bs : List ℕ} {c : Change} {d : ChangedBytes} → Call low l bs c d
+    → answerLine (d .answer) ≡ answerLine (answerBy l (toldOf low bs c) d)
 unfolding answerBy
-line-by {l} {bs} {c} {d} h = elim (eq? (ledgerNumber l c) 0) [
+line-by {l} {bs} {c} {d} h = elim (eq? (ledgerNumber l (toldOf low bs c)) 0) [
   | inl e ↦
-      let number : d .answer .number ≡ answerBy l c d .number = omega (arith, h .number) in
-      let pairs : d .answer .pairs ≡ answerBy l c d .pairs = omega (arith, h .accepted-pairs e) in
+      let number : d .answer .number ≡ answerBy l (toldOf low bs c) d .number = omega (arith, h .number) in
+      let pairs : d .answer .pairs ≡ answerBy l (toldOf low bs c) d .pairs = omega (arith, h .accepted-pairs e) in
       λ i. answerLine (answered (number i) (d .answer .draws) (d .answer .falls) (pairs i))
   | inr e ↦
       refused-line (d .answer) (λ z. e (sym (h .number) ∙ z))
       ∙ ap (λ (k : ℕ). bytes "(refused " ++ (decimal k ++ bytes ")\n")) (h .number)
-      ∙ sym (refused-line (answerBy l c d) e)
+      ∙ sym (refused-line (answerBy l (toldOf low bs c) d) e)
 ]
 
 -- The lines of the pairs, vertex by vertex, in a sound rack of which the facts hold.
@@ -129,6 +130,10 @@ module _ (s : State) (ok : LowValid s) where
   leaves-low : (c : Change) → changeBytes base low (write s) c ≡ leaves c
   leaves-low c = subst (λ (S : Shape). changeBytes base S (write s) c ≡ leaves c) (ok .shape) (call-leaves s rack c)
 
+  next-low : (c : Change) → ledger (change base s c .state) ≡ entered (ledger s) (toldOf low (write s) c)
+  next-low c =
+      subst (λ (S : Shape). ledger (change base s c .state) ≡ entered (ledger s) (toldOf S (write s) c)) (ok .shape) (sym (next-ledger s rack c))
+
   demand-of : (cs : List Change) → Demand low (ledger s) (write s) cs
   demand-of cs = subst (λ (S : Shape). Demand S (ledger s) (write s) cs) (ok .shape) (from-valid s rack cs)
 
@@ -150,30 +155,31 @@ last-by s ok (c ∷ cs) =
     ∙ ap (λ (x : ChangedBytes). lastRack low (x .rack) cs) (sym (leaves-low s ok c))
 
 changes-by : (s : State) → LowValid s → (cs : List Change)
-    → changesText base s cs ≡ changesBy (ledger s) (write s) cs ++ endingBy (enteredAll (ledger s) cs) (lastRack low (write s) cs)
-unfolding changesText changesBy enteredAll lastRack Calls
+    → changesText base s cs ≡ changesBy (ledger s) (write s) cs ++ endingBy (enteredAll (ledger s) (toldAll low (write s) cs)) (lastRack low (write s) cs)
+unfolding changesText changesBy enteredAll toldAll lastRack Calls
 changes-by s ok [] = ending-by s ok
 changes-by s ok (c ∷ cs) =
     let d : Changed = change base s c in
     let x : ChangedBytes = changeBytes base low (write s) c in
-    let e : ledger (d .state) ≡ entered (ledger s) c = sym (next-ledger s (rack s ok) c) in
+    let t : Told = toldOf low (write s) c in
+    let e : ledger (d .state) ≡ entered (ledger s) t = next-low s ok c in
     let f : write (d .state) ≡ x .rack = ap (λ (y : ChangedBytes). y .rack) (sym (leaves-low s ok c)) in
-    let now : answerLine (d .answer) ≡ answerLine (answerBy (ledger s) c x) =
+    let now : answerLine (d .answer) ≡ answerLine (answerBy (ledger s) t x) =
     ap (λ (y : ChangedBytes). answerLine (y .answer)) (sym (leaves-low s ok c)) ∙ line-by (demand-of s ok (c ∷ []) .calls .0) in
     let later : changesText base (d .state) cs
-    ≡ changesBy (entered (ledger s) c) (x .rack) cs ++ endingBy (enteredAll (entered (ledger s) c) cs) (lastRack low (x .rack) cs) =
+    ≡ changesBy (entered (ledger s) t) (x .rack) cs ++ endingBy (enteredAll (entered (ledger s) t) (toldAll low (x .rack) cs)) (lastRack low (x .rack) cs) =
     changes-by (d .state) (low-keeps s c ok) cs
-    ∙ (λ i. changesBy (e i) (f i) cs ++ endingBy (enteredAll (e i) cs) (lastRack low (f i) cs)) in
-    (λ i. now i ++ later i) ∙ sym (append-assoc (answerLine (answerBy (ledger s) c x)) (changesBy (entered (ledger s) c) (x .rack) cs) _)
+    ∙ (λ i. changesBy (e i) (f i) cs ++ endingBy (enteredAll (e i) (toldAll low (f i) cs)) (lastRack low (f i) cs)) in
+    (λ i. now i ++ later i) ∙ sym (append-assoc (answerLine (answerBy (ledger s) t x)) (changesBy (entered (ledger s) t) (x .rack) cs) _)
 
 -- A trace of 1 to 256 vertices, run from a fresh rack.
 run-demand : (t : Trace) → sizeGood low (t .n) ≡ true → RunDemand t (write (after base (empty lowKind (t .n)) (t .changes))) (recordText base t)
-unfolding recordText freshLedger empty edge
+unfolding recordText lastLedger freshLedger empty edge
 run-demand t e =
     let ok = empty-good (t .n) e in
     let D : Demand low (freshLedger (t .n)) (write (empty lowKind (t .n))) (t .changes) = demand-of (empty lowKind (t .n)) ok (t .changes) in
     let left = last-by (empty lowKind (t .n)) ok (t .changes) in
-    let book : Ledger = enteredAll (freshLedger (t .n)) (t .changes) in
+    let book : Ledger = lastLedger t in
     let lines : List ℕ = changesBy (freshLedger (t .n)) (write (empty lowKind (t .n))) (t .changes) in
     record {
       demand = D;

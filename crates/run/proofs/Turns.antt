@@ -1,6 +1,6 @@
 -- The loop over the changes: which of them are made, what is left of the text, and what is printed; how a turn moves it on, and its end.
 -- No contract cites this file. Assumes nothing.
-use mathlib.Core.Path.{_≡_, refl, sym, ap, _∙_}
+use mathlib.Core.Path.{_≡_, refl, sym, ap, _∙_, subst}
 use mathlib.Core.List.{List, [], _∷_, _++_, append-assoc}
 use Prim.Native.Nat.{ℕ, _+_, _*_, _-_, _≤_, _<_}
 use native.Mathlib.Omega.{arith}
@@ -11,7 +11,9 @@ use Rattle.model.specs.Shape.{low}
 use Rattle.model.specs.State.{State, base}
 use Rattle.model.specs.Bytes.{read, write}
 use Rattle.model.specs.Text.{texts}
+use Rattle.model.specs.Lists.{All}
 use Rattle.model.specs.Change.{Change, Answer, change}
+use Rattle.model.specs.Trace.{LineChange}
 use Rattle.model.specs.Record.{answerLine, after, changesText}
 use Rattle.theory.proofs.OnBytes.{Rack, low-rack}
 use Rattle.text.specs.Writing.{Put}
@@ -58,6 +60,7 @@ pub record Going (heads words : List ℕ) (n : ℕ) (rack₀ rack out₀ out : L
   pub kept : Kept heads words changes
   pub count : n ≡ length changes
   pub rest : List Change
+  pub lines : All LineChange rest
   pub left : k + length rest ≡ n
   pub within : w ≤ length words
   pub heads-rest : List ℕ
@@ -78,6 +81,7 @@ going-start heads words n rack out ok r = record {
   kept = r .kept;
   count = r .count;
   rest = r .changes;
+  lines = r .lines;
   left = omega (arith, r .count);
   within = omega arith;
   heads-rest = r .kept .heads-rest;
@@ -119,6 +123,7 @@ module _ {heads words rack₀ rack out₀ out : List ℕ} {n k w at : ℕ} (g : 
     pub change : Change
     pub later : List Change
     pub are : g .rest ≡ change ∷ later
+    pub lines : LineChange change × All LineChange later
     pub next : StoredChange heads words k w change
 
   -- the heads and the words that are left begin with those of the first change that is left
@@ -155,7 +160,7 @@ module _ {heads words rack₀ rack out₀ out : List ℕ} {n k w at : ℕ} (g : 
     where
       go : (l : List Change) → g .rest ≡ l → Turn
       go [] e = absurd (omega (arith, g .left, ap length e))
-      go (c ∷ cs) e = record { change = c; later = cs; are = e; next = next-of e }
+      go (c ∷ cs) e = record { change = c; later = cs; are = e; lines = subst (All LineChange) e (g .lines); next = next-of e }
 
   -- what is written fits
   done-within : length (g .done) ≤ length out₀
@@ -169,6 +174,10 @@ module _ {heads words rack₀ rack out₀ out : List ℕ} {n k w at : ℕ} (g : 
     -- there is room for a line, and for the ending after it
     pub line-room : at + answerRoom + endingRoom ≤ length out
     line-room = omega (arith, g .room, ap length (t .are), put-length (g .wrote) done-within)
+
+    -- the words lent to it are few
+    pub words-few : {h : Head} → HeadAt heads k h → length (take (w + h .count - w) (drop w words)) ≤ 128
+    words-few r = omega (arith, ap (λ (x : Change). length (x .words)) (head-brings (t .next) r), t .lines .0 .few)
 
     -- the change was made, and its line written
     pub going-turn : {h : Head} {now last : List ℕ} {m : ℕ} → HeadAt heads k h
@@ -186,12 +195,13 @@ module _ {heads words rack₀ rack out₀ out : List ℕ} {n k w at : ℕ} (g : 
         let p = put-as _ line (ap (λ (x : Change). answerLine (change base s x .answer)) is) (made .1) in
         let (ok, b) = sounded-read now (change base s c .state) e (low-keeps s c (sounded-valid (g .sounded))) in
         let four : 4 * (k + 1) ≡ 4 * k + 4 = omega arith in
-        let few : m ≤ answerRoom = omega (arith, p .count, answer-most _ (valid-figures s c (sounded-valid (g .sounded)))) in
+        let few : m ≤ answerRoom = omega (arith, p .count, answer-most _ (valid-figures s c (sounded-valid (g .sounded)) (t .lines .0))) in
         record {
           changes = g .changes;
           kept = g .kept;
           count = g .count;
           rest = t .later;
+          lines = t .lines .1;
           left = omega (arith, g .left, ap length (t .are));
           within = omega (arith, z, t .next .words-within);
           heads-rest = g .heads-rest;

@@ -13,7 +13,8 @@ use Rattle.model.specs.Bytes.{read, write}
 use Rattle.model.specs.Sound.{sizeGood}
 use Rattle.model.specs.Calls.{sized, makeNumber, made}
 use Rattle.model.specs.Change.{Change}
-use Rattle.model.specs.Trace.{Holds, rackLine}
+use Rattle.model.specs.Lists.{All}
+use Rattle.model.specs.Trace.{LineChange, Holds, rackLine}
 use Rattle.model.specs.Record.{after, changesText, recordText, blankRecord}
 use Rattle.model.specs.Run.{Ran, blank, ran, bad-size, RunAnswer, turnedBack, longest, spaceLength}
 use Rattle.model.proofs.Tests.{true-T, and-left, and-right}
@@ -57,6 +58,7 @@ module _ {heads words old w : List ℕ} {c n k : ℕ} (t : Recordable heads word
   pub ready : Ready heads words c (length (part k w))
   ready = record {
     changes = t .changes;
+    lines = t .lines;
     kept = t .kept;
     count = t .count;
     enough = omega (arith, t .enough, p .count, length-part k w, put-kept p first-within);
@@ -80,14 +82,15 @@ module _ {heads words old w : List ℕ} {c n k : ℕ} (t : Recordable heads word
 pub record-within : {heads words last old new : List ℕ} {c n r : ℕ} → sizeGood low n ≡ true → Recordable heads words c n (length old)
     → (w : Written heads words c n last old new r) → r ≤ length old
 unfolding recordText
-record-within {n = n} e t w =
+record-within {heads} {words} {n = n} e t w =
+    let same : t .changes ≡ w .changes = kept-same heads words (t .changes) (w .changes) (sym (t .count) ∙ w .count) (t .kept) (w .kept) in
     omega (
       arith,
       t .enough,
       w .count,
       w .prints .count,
       length-append (rackLine n) (changesText base (empty lowKind n) (w .changes)),
-      changes-most base LowValid bounded (empty lowKind n) (w .changes) (empty-good n e),
+      changes-most base LowValid bounded (empty lowKind n) (w .changes) (empty-good n e) (subst (All LineChange) same (t .lines)),
     )
 
 -- Making: n is one of the paper's board numbers, or it isn't.
@@ -151,7 +154,7 @@ module _ {rack text space : List ℕ} (heads words : List ℕ) {c n : ℕ} {x : 
       let (cs, holds, count, kept) = checked in
       let short = subst (λ (l : List ℕ). length l ≤ longest) (holds .printed) (g .short) in
       let enough = space-enough (record { n = n; changes = cs }) short in
-      record { changes = cs; kept = kept; count = count; enough = omega (arith, count, g .wide, enough) }
+      record { changes = cs; lines = holds .changes-fit; kept = kept; count = count; enough = omega (arith, count, g .wide, enough) }
 
   -- 5, or its record
   pub took : {a : RunAnswer} {last new : List ℕ} → Took (sizeGood low n) heads words c n rack space a last new → Ran base rack text space a last new

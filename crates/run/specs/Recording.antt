@@ -9,7 +9,8 @@ use Rattle.model.specs.Shape.{low}
 use Rattle.model.specs.State.{State, base, lowKind, empty}
 use Rattle.model.specs.Bytes.{read, write}
 use Rattle.model.specs.Change.{Change}
-use Rattle.model.specs.Trace.{rackLine}
+use Rattle.model.specs.Lists.{All}
+use Rattle.model.specs.Trace.{LineChange, rackLine}
 use Rattle.model.specs.Record.{pairLine, pairLines, endLine, after, changesText, recordText}
 use Rattle.model.specs.Run.{turnedBack, RunAnswer as AnswerOf, Ran, output}
 use Rattle.text.specs.Writing.{Put}
@@ -25,9 +26,10 @@ pairPart s v = elim (ltb v (s .mate v)) [ true ↦ pairLine s v | false ↦ [] ]
 unfoldable pub endingText : State → List ℕ
 endingText s = pairLines s ++ endLine s
 
--- as many changes are kept, and there is room for their lines and the ending
+-- as many changes are kept, each of which a line of a trace can hold, and there is room for their lines and the ending
 pub record Ready (heads words : List ℕ) (n room : ℕ) : Type 0 where
   pub changes : List Change
+  pub lines : All LineChange changes
   pub kept : Kept heads words changes
   pub count : n ≡ length changes
   pub enough : answerRoom * n + endingRoom ≤ room
@@ -40,9 +42,10 @@ pub record Played (heads words : List ℕ) (n : ℕ) (rack last old new : List �
   pub leaves : last ≡ write (after base (read low rack) changes)
   pub prints : Put (changesText base (read low rack) changes) old new r
 
--- as many changes are kept, and there is room for the record of a trace of n vertices with them
+-- as many such changes are kept, and there is room for the record of a trace of n vertices with them
 pub record Recordable (heads words : List ℕ) (k n room : ℕ) : Type 0 where
   pub changes : List Change
+  pub lines : All LineChange changes
   pub kept : Kept heads words changes
   pub count : k ≡ length changes
   pub enough : length (rackLine n) + answerRoom * k + endingRoom ≤ room

@@ -1,5 +1,5 @@
 -- Demand 3 of a run: what the record of a text that is taken says, line by line, and what the rack then holds, by the link book (the edge
--- ledger) that is kept from the text's changes alone; and of a blank paper, that there is neither. The theorem is `demand-three-of-run`
+-- ledger) that is kept from the text's changes alone, told of each whether it runs out of words; and of a blank paper, that there is neither. The theorem is `demand-three-of-run`
 -- (proofs/RunDemand.antt). Assumes nothing.
 use mathlib.Core.Path.{_≡_}
 use mathlib.Core.Bool.{true, false}
@@ -11,10 +11,10 @@ use Rattle.model.specs.State.{base, lowKind, empty}
 use Rattle.model.specs.Bytes.{rankAt, write}
 use Rattle.model.specs.Change.{Change, Answer}
 use Rattle.model.specs.Calls.{ChangedBytes, changeBytes}
-use Rattle.model.specs.Ledger.{Ledger, links, ledgerNumber, entered, enteredAll}
+use Rattle.model.specs.Ledger.{Ledger, Told, links, ledgerNumber, entered, enteredAll}
 use Rattle.model.specs.Trace.{Trace, Holds, rackLine}
 use Rattle.model.specs.Record.{answerLine, mean, endText, blankRecord}
-use Rattle.theory.specs.Demand.{lastRack, isPair, pairsOf, Facts, Demand}
+use Rattle.theory.specs.Demand.{lastRack, toldOf, toldAll, isPair, pairsOf, Facts, Demand}
 use Rattle.theory.specs.Crowding.{Crowding}
 use Rattle.record.specs.Line.{pairText}
 
@@ -22,20 +22,23 @@ use Rattle.record.specs.Line.{pairText}
 unfoldable pub freshLedger : ℕ → Ledger
 freshLedger n = record { n = n; there = λ v w. false }
 
--- What a change's line has to say by the ledger l, where d is what its call did: the number is the ledger's, and the pairs are the ledger's
--- links whose ends name each other just after it. The draws and the falls are those of the moves.
-unfoldable pub answerBy : Ledger → Change → ChangedBytes → Answer
-answerBy l c d = record {
-  number = ledgerNumber l c;
+-- What a change's line has to say by the ledger l, which is told t, where d is what its call did: the number is the ledger's, and the pairs are
+-- the ledger's links whose ends name each other just after it. The draws and the falls are those of the moves.
+unfoldable pub answerBy : Ledger → Told → ChangedBytes → Answer
+answerBy l t d = record {
+  number = ledgerNumber l t;
   draws = d .answer .draws;
   falls = d .answer .falls;
-  pairs = pairsOf low (entered l c) (d .rack);
+  pairs = pairsOf low (entered l t) (d .rack);
 }
 
 -- "one line for each change", by the ledger l, from the rack bs on
 unfoldable pub changesBy : Ledger → List ℕ → List Change → List ℕ
 changesBy l bs [] = []
-changesBy l bs (c ∷ cs) = let d = changeBytes base low bs c in answerLine (answerBy l c d) ++ changesBy (entered l c) (d .rack) cs
+changesBy l bs (c ∷ cs) =
+    let t = toldOf low bs c in
+    let d = changeBytes base low bs c in
+    answerLine (answerBy l t d) ++ changesBy (entered l t) (d .rack) cs
 
 -- "then the pairs by rising lower board": a line for each link of the ledger whose ends name each other as mates, and no other line
 unfoldable pub pairsBy : Ledger → List ℕ → List ℕ
@@ -45,20 +48,22 @@ pairsBy l bs = each (l .n) (λ v. each (l .n) (λ w. elim (isPair low l bs v w) 
 unfoldable pub endingBy : Ledger → List ℕ → List ℕ
 endingBy l bs = pairsBy l bs ++ endText (pairsOf low l bs) (mean (links l) (l .n))
 
--- A run of the trace t that left the rack `last` and the record `text`: from a fresh rack, with a ledger that starts with no link and sees
--- the changes alone.
+-- the ledger after all the changes of the trace t
+unfoldable pub lastLedger : Trace → Ledger
+lastLedger t = enteredAll (freshLedger (t .n)) (toldAll low (write (empty lowKind (t .n))) (t .changes))
+
+-- A run of the trace t that left the rack `last` and the record `text`: from a fresh rack, with a ledger that starts with no link, sees the
+-- changes alone, and is told of each whether it runs out of words.
 pub record RunDemand (t : Trace) (last text : List ℕ) : Type 0 where
   -- demand 3 of its changes, each of them and the last rack
   pub demand : Demand low (freshLedger (t .n)) (write (empty lowKind (t .n))) (t .changes)
   -- the rack left is the last one of that list, so the facts are of its bytes, with the ledger's links
   pub left : last ≡ lastRack low (write (empty lowKind (t .n))) (t .changes)
-  pub facts : Facts low (enteredAll (freshLedger (t .n)) (t .changes)) last
+  pub facts : Facts low (lastLedger t) last
   -- and what the figures of the mean say of these links
-  pub crowded : Crowding (enteredAll (freshLedger (t .n)) (t .changes))
+  pub crowded : Crowding (lastLedger t)
   -- the record is the one that the ledger asks for, to the byte
-  pub says : text
-      ≡ rackLine (t .n)
-      ++ (changesBy (freshLedger (t .n)) (write (empty lowKind (t .n))) (t .changes) ++ endingBy (enteredAll (freshLedger (t .n)) (t .changes)) last)
+  pub says : text ≡ rackLine (t .n) ++ (changesBy (freshLedger (t .n)) (write (empty lowKind (t .n))) (t .changes) ++ endingBy (lastLedger t) last)
 
 -- What is so of every run that answers 0, lent the rack `rack`: of a blank paper, that "no rack was set", no change made and no pair held, and
 -- "the rack buffer keeps its bytes"; of any other text, what demand 3 says of the trace that it holds.

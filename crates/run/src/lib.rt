@@ -88,15 +88,15 @@ fn put_ending(rack: &[u8], out: &mut [u8]) -> usize
     at + k
 }
 
-// One change, and the line that answers it.
+// One change of a trace, which has at most 128 words, and the line that answers it.
 fn put_change(rack: &mut [u8], code: u32, a: u32, b: u32, words: &[u32], out: &mut [u8]) -> usize
     requires { ⌜ Sounded low (now rack) ⌝ }
-    requires { ⌜ answerRoom ≤ length (now out) ⌝ }
+    requires { ⌜ (length (now words) ≤ 128) × (answerRoom ≤ length (now out)) ⌝ }
     ensures leaves { λ _. ⌜ now (rack .exit) ≡ write (changeOf base (read low (now (rack .entry))) (brought code a b (now (words .entry))) .state) ⌝ }
     ensures prints { λ r. ⌜ Put (answerLine (changeOf base (read low (now (rack .entry))) (brought code a b (now (words .entry))) .answer)) (now (out .entry)) (now (out .exit)) r ⌝ }
 {
     let x = changes::change(rack, code, a, b, words);
-    record::put_answer(out, x.number, x.draws, x.falls, x.pairs)
+    record::put_answer(out, x.number, x.draws as u32, x.falls, x.pairs)
 }
 
 // "one line for each change, then the pairs by rising lower board, then the end line": the changes that are kept are made, and "each line is

@@ -3,21 +3,22 @@
 use mathlib.Core.Path.{_≡_, sym, ap, _∙_, subst}
 use mathlib.Core.Logic.{_≢_}
 use mathlib.Core.List.{List, []}
-use Prim.Native.Nat.{ℕ, _%_, _≤_, _<_}
+use Prim.Native.Nat.{ℕ, _≤_, _<_}
 use native.Mathlib.Omega.{arith}
 use lib.Dec.{T}
-use lib.ListN.{getD}
 use Rattle.model.specs.Counting.{count}
 use Rattle.model.specs.Shape.{Shape}
 use Rattle.model.specs.State.{base, State, near, below}
 use Rattle.model.specs.Bytes.{noMate, mateAt, read}
-use Rattle.model.specs.Moves.{place, chosen}
+use Rattle.model.specs.Words.{place}
+use Rattle.model.specs.Moves.{chosen}
+use Rattle.model.proofs.Counting.{count-bound}
 use Rattle.model.proofs.Prefix.{count-ext}
 use Rattle.model.proofs.Limits.{mateEntry-free, mateEntry-mate}
 use Rattle.theory.proofs.Loops.{chosen-at}
 use Rattle.layout.specs.Rows.{degreeAt, NthOwned}
 use Rattle.moves.specs.Proper.{Held, RowBelow}
-use Rattle.moves.proofs.Held.{held-room, held-mate, held-owns, held-degree, held-small, nth-in}
+use Rattle.moves.proofs.Held.{held-few, held-room, held-mate, held-owns, held-degree, held-small, nth-in}
 use Rattle.moves.proofs.Pairs.{entry-free as entry-alone}
 use Rattle.settling.specs.Settling.{running}
 use Rattle.settling.specs.declared.tally.Tally.{Tally}
@@ -36,6 +37,11 @@ module _ {S : Shape} (bs : List ℕ) (h : Held S bs) (v : ℕ) (l : v < read S b
       let d : read S bs .mate v ≢ v = λ q. f (e ∙ held-mate h v (held-small h v l) ∙ mateEntry-free (read S bs) v q) in
       (d, e ∙ held-mate h v (held-small h v l) ∙ mateEntry-mate (read S bs) v d)
 
+-- no more neighbours are below a level than a rack has vertices
+pub below-most : {S : Shape} {bs : List ℕ} → Held S bs → (u i : ℕ) → below (read S bs) u i ≤ S .most
+unfolding below
+below-most {S} {bs} h u i = omega (arith, count-bound (near (read S bs) u i) (read S bs .n), held-few h)
+
 -- a row of exactly the neighbours below the level is as long as they are many
 pub row-below : (s : State) (i u : ℕ) → RowBelow i u s → count (s .owns u) (s .n) ≡ below s u i
 unfolding below
@@ -46,13 +52,12 @@ module _ {S : Shape} (bs : List ℕ) (h : Held S bs) (i u : ℕ) (l : u < read S
   row-degree = held-degree h u (held-small h u l) ∙ row-below (read S bs) i u f
 
   -- the vertex at the place that the word gives
-  pub row-chosen : (words : List ℕ) (t : Tally) (k y : ℕ) → k ≡ below (read S bs) u i → NthOwned S bs u (getD words (t .draws) 0 % k) y
+  pub row-chosen : (words : List ℕ) (t : Tally) (k y : ℕ) → k ≡ below (read S bs) u i → NthOwned S bs u (place words (t .draws) k) y
       → (y ≡ chosen words i u (running S bs [] t)) × T (near (read S bs) u i y)
-  unfolding place
   row-chosen words t k y d n =
       let s : State = read S bs in
-      let m = nth-in s (h .proper) bs (held-owns h) u (getD words (t .draws) 0 % k) y (held-small h u l) n in
+      let m = nth-in s (h .proper) bs (held-owns h) u (place words (t .draws) k) y (held-small h u l) n in
       let c : T (near s u i y) = subst T (f y) (m .1) in
       let p : count (near s u i) y ≡ place words (t .draws) (below s u i) =
-      sym (count-ext (s .owns u) (near s u i) y (λ w b. f w)) ∙ m .2 ∙ ap (λ (x : ℕ). getD words (t .draws) 0 % x) d in
+      sym (count-ext (s .owns u) (near s u i) y (λ w b. f w)) ∙ m .2 ∙ ap (place words (t .draws)) d in
       (sym (chosen-at words i u (running S bs [] t) y (m .0) c p), c)

@@ -6,6 +6,7 @@ use mathlib.Core.List.{List}
 use Prim.Native.Nat.{ℕ, zero, suc, _+_, _≤_, _<_}
 use native.Mathlib.Omega.{arith}
 use lib.Dec.{T}
+use lib.ListN.{length}
 use Rattle.model.specs.Shape.{Shape}
 use Rattle.model.specs.State.{base, State, below}
 use Rattle.model.specs.Moves.{Run, handed, drawn, draw, handOver, fall, scanFrom, take}
@@ -16,7 +17,7 @@ use Rattle.moves.specs.Proper.{Proper, Ordered, ranked}
 use Rattle.moves.proofs.Keeps.{hand-row}
 use Rattle.moves.proofs.Held.{proper-few}
 use Rattle.settling.proofs.Steps.{kept-then, kept-none, hand-kept, fall-kept, draw-kept, visited-kept}
-use Rattle.settling.proofs.News.{same-of, same-then, handed-same, fall-same, draw-same, upto-none, upto-yes, upto-no, upto-room, scanFrom-same}
+use Rattle.settling.proofs.News.{same-of, same-then, handed-same, fall-same, draw-same, upto-none, upto-yes, upto-no, draw-room, upto-room, upto-falls, scanFrom-same}
 pub use Rattle.settling.proofs.Steps.{SameEdges}
 pub use Rattle.settling.proofs.News.{SameRun}
 
@@ -63,16 +64,18 @@ take-kept {S} words i v r p o l e k =
     ]
 
 pub take-room : {S : Shape} (words : List ℕ) (i v : ℕ) (r : Run) → Proper S (r .state) → Ordered (r .state) → v < r .state .n → r .state .rank v ≡ suc i
-    → i ≤ base .top → (take base words i v r .draws ≤ r .draws + suc (S .most)) × (take base words i v r .falls ≤ suc (r .falls))
+    → i ≤ base .top → {b : ℕ} → length words ≤ b → r .draws ≤ b
+    → (take base words i v r .draws ≤ b + suc (S .most)) × (take base words i v r .falls ≤ suc (r .falls))
 unfolding draw drawn fall handOver
-take-room words i v r p o l e k =
+take-room words i v r p o l e k {b} lent few =
     let s : State = handOver i v (r .state) in
     elim (le? (base .thr i) (below s v i)) [
-      | inl h ↦ rw (take-draws words i v r h) (omega arith, omega arith)
+      | inl h ↦ rw (take-draws words i v r h) (omega (arith, draw-room words i lent v (handed i v r) few), omega arith)
       | inr h ↦
           let q : Run = fall i v (handed i v r) in
-          let m = upto-room words i base (q .state .owns v) (q .state .n) q in
-          rw (take-falls words i v r h, scanFrom-loop base words i v q) (omega (arith, m .0, proper-few p), omega (arith, m .1))
+          let d = upto-room words i base (q .state .owns v) (q .state .n) q lent few in
+          let f = upto-falls words i base (q .state .owns v) (q .state .n) q in
+          rw (take-falls words i v r h, scanFrom-loop base words i v q) (omega (arith, d, proper-few p), omega (arith, f))
     ]
 
 pub take-same : (words : List ℕ) (i v : ℕ) (r q : Run) → SameRun r q → SameRun (take base words i v r) (take base words i v q)

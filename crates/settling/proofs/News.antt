@@ -8,9 +8,11 @@ use native.Mathlib.Omega.{arith}
 use lib.Dec.{T}
 use lib.ListN.{length, getD}
 use Rattle.model.specs.Counting.{listed}
-use Rattle.model.specs.State.{Rules, State, near}
-use Rattle.model.specs.Moves.{Run, lifted, handed, leave, join, parting, part, rise, marry, handOver, fall, place, chosen, drawn, draw, promote, due, scanFrom}
+use Rattle.model.specs.State.{Rules, State, near, below}
+use Rattle.model.specs.Words.{deciding, place}
+use Rattle.model.specs.Moves.{Run, lifted, handed, leave, join, parting, part, rise, marry, handOver, fall, chosen, spent, drawn, draw, promote, due, scanFrom}
 use Rattle.model.proofs.Tests.{holds?, T-true, T-false}
+use Rattle.model.proofs.Deciding.{deciding-most}
 use Rattle.theory.proofs.Loops.{scanStep, scanUpto, scanFrom-loop}
 use Rattle.settling.specs.Settling.{visited}
 
@@ -65,11 +67,11 @@ module _ (words : List ℕ) (i u : ℕ) {r q : Run} (e : SameRun r q) where
       (place words (e .draws k) (length (listed (near (e .state k) u i) (e .state k .n)))) 0
 
   pub draw-same : SameRun (draw words i u r) (draw words i u q)
-  unfolding draw drawn
+  unfolding draw drawn spent
   draw-same = record {
     state = λ k. marry u (chosen-same k) (rise i (chosen-same k) (part (chosen-same k) (e .state k)));
     queues = λ k. parting (e .state k) (chosen-same k) (e .queues k);
-    draws = ap suc (e .draws);
+    draws = λ k. suc (deciding words (e .draws k) (below (e .state k) u i));
     falls = e .falls;
   }
 
@@ -121,29 +123,45 @@ module _ (R : Rules) (words : List ℕ) (i : ℕ) where
       (subst (λ (s : State). SameRun (scanUpto R words i (r .state .owns v) (r .state .n) r) (scanUpto R words i (s .owns v) (s .n) q)) (e .state)
       (upto-same (r .state .owns v) (r .state .n) e)) (same-of (sym (scanFrom-loop R words i v q))))
 
--- How many draws and falls: one draw more at most for each vertex visited.
-module _ (words : List ℕ) (i : ℕ) where
-  pub promote-draws : (u : ℕ) (r : Run) → promote words i u r .draws ≡ suc (r .draws)
-  unfolding promote draw drawn
-  promote-draws u r = refl
+-- How far the draws and falls come: where neither the words used nor those lent are more than b, one more at most for each vertex visited.
+module _ (words : List ℕ) (i : ℕ) {b : ℕ} (lent : length words ≤ b) where
+  pub draw-room : (u : ℕ) (r : Run) → r .draws ≤ b → draw words i u r .draws ≤ suc b
+  unfolding draw drawn spent
+  draw-room u r h = omega (arith, deciding-most words (r .draws) (below (r .state) u i) b h lent)
 
+  pub promote-room : (u : ℕ) (r : Run) → r .draws ≤ b → promote words i u r .draws ≤ suc b
+  unfolding promote
+  promote-room u r h = draw-room u (lifted i u r) h
+
+  visited-room : (R : Rules) (w : ℕ) (r : Run) → r .draws ≤ b → visited R words i w r .draws ≤ suc b
+  visited-room R w r h = elim (holds? (due R i w (r .state))) [
+    | inl t ↦ rw (visited-yes R words i w r t) (promote-room w r h)
+    | inr t ↦ rw (visited-no R words i w r t) (omega arith)
+  ]
+
+module _ (words : List ℕ) (i : ℕ) where
   pub promote-falls : (u : ℕ) (r : Run) → promote words i u r .falls ≡ r .falls
   unfolding promote draw drawn
   promote-falls u r = refl
 
-  pub visited-room : (R : Rules) (w : ℕ) (r : Run) → (visited R words i w r .draws ≤ suc (r .draws)) × (visited R words i w r .falls ≡ r .falls)
-  visited-room R w r = elim (holds? (due R i w (r .state))) [
-    | inl t ↦ rw (visited-yes R words i w r t) (omega (arith, promote-draws w r), promote-falls w r)
-    | inr t ↦ rw (visited-no R words i w r t) (omega arith, refl)
+  visited-falls : (R : Rules) (w : ℕ) (r : Run) → visited R words i w r .falls ≡ r .falls
+  visited-falls R w r = elim (holds? (due R i w (r .state))) [
+    | inl t ↦ rw (visited-yes R words i w r t) (promote-falls w r)
+    | inr t ↦ rw (visited-no R words i w r t) refl
   ]
 
-  pub upto-room : (R : Rules) (p : ℕ → Bool) (m : ℕ) (r : Run)
-      → (scanUpto R words i p m r .draws ≤ r .draws + m) × (scanUpto R words i p m r .falls ≡ r .falls)
-  upto-room R p zero r = rw (upto-none R words i p r) (omega arith, refl)
-  upto-room R p (suc m) r = elim (holds? (p m)) [
-    | inl t ↦ rw (upto-yes R words i p m r t) (
-      omega (arith, upto-room R p m r .0, visited-room R m (scanUpto R words i p m r) .0),
-      visited-room R m (scanUpto R words i p m r) .1 ∙ upto-room R p m r .1,
-    )
-    | inr t ↦ rw (upto-no R words i p m r t) (omega (arith, upto-room R p m r .0), upto-room R p m r .1)
+  pub upto-room : (R : Rules) (p : ℕ → Bool) (m : ℕ) (r : Run) {b : ℕ} → length words ≤ b → r .draws ≤ b → scanUpto R words i p m r .draws ≤ b + m
+  upto-room R p zero r lent h = rw (upto-none R words i p r) (omega arith)
+  upto-room R p (suc m) r {b} lent h =
+      let n = upto-room R p m r lent h in
+      elim (holds? (p m)) [
+        | inl t ↦ rw (upto-yes R words i p m r t) (omega (arith, visited-room words i {b = b + m} (omega arith) R m (scanUpto R words i p m r) n))
+        | inr t ↦ rw (upto-no R words i p m r t) (omega (arith, n))
+      ]
+
+  pub upto-falls : (R : Rules) (p : ℕ → Bool) (m : ℕ) (r : Run) → scanUpto R words i p m r .falls ≡ r .falls
+  upto-falls R p zero r = ap (λ (x : Run). x .falls) (upto-none R words i p r)
+  upto-falls R p (suc m) r = elim (holds? (p m)) [
+    | inl t ↦ rw (upto-yes R words i p m r t) (visited-falls R m (scanUpto R words i p m r) ∙ upto-falls R p m r)
+    | inr t ↦ rw (upto-no R words i p m r t) (upto-falls R p m r)
   ]

@@ -113,12 +113,12 @@ module _ {S : Shape} {words : List ℕ} {i v : ℕ} {bs₀ places₀ : List ℕ}
       turn-left = over turn (here .after) (here .none)
 
       -- what the visit asks
-      pub scan-visits : {w : ℕ} → w ≡ placeOf (c .word) (c .rest) → t₀ .draws ≤ takeLimit S
+      pub scan-visits : {w : ℕ} → w ≡ placeOf (c .word) (c .rest) → t₀ .draws ≤ takeLimit S → length words ≤ takeLimit S
           → (Held S bs × Ordered (read S bs)) × (((w < read S bs .n) × (i ≤ base .top)) × (HoldsWaiting places t (read S bs) × (t .draws ≤ drawLimit)))
       unfolding done turn
-      scan-visits {w} e d =
+      scan-visits {w} e d lent =
           let q : SameEdges S (read S bs₀) (done turn .state) = done-kept turn in
-          let m = upto-room words i base (read S bs₀ .owns v) turn (running S bs₀ places₀ t₀) .0 in
+          let m = upto-room words i base (read S bs₀ .owns v) turn (running S bs₀ places₀ t₀) lent d in
           subst (λ (s : State). (Held S bs × Ordered s) × (((w < s .n) × (i ≤ base .top)) × (HoldsWaiting places t s × (t .draws ≤ drawLimit))))
           (sym (done-reads turn turn-left)) (
             (done-held turn turn-left, q .ordered),

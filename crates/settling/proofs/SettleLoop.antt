@@ -2,7 +2,7 @@
 -- Assumes nothing.
 use mathlib.Core.Path.{_≡_, refl, sym, ap, _∙_, subst}
 use mathlib.Core.List.{List}
-use Prim.Native.Nat.{ℕ, zero, suc, _+_, _*_, _≤_, _<_}
+use Prim.Native.Nat.{ℕ, zero, suc, _+_, _-_, _*_, _^_, _≤_, _<_}
 use native.Mathlib.Numerals.{add-one}
 use native.Mathlib.Nat.{mul-suc, mul-le-mul, mul-le-mul-left}
 use native.Mathlib.Omega.{arith}
@@ -18,7 +18,7 @@ use Rattle.theory.proofs.Settling.{settle-step, settle-rest}
 use Rattle.moves.specs.Proper.{Proper, Ordered, Held}
 use Rattle.moves.proofs.Held.{held-of, held-good, held-room, held-few, held-size}
 use Rattle.settling.specs.declared.tally.Tally.{Tally}
-use Rattle.settling.specs.Settling.{queueIn, running, HoldsWaiting, Room, Left, largestFigure, takeLimit}
+use Rattle.settling.specs.Settling.{queueIn, running, HoldsWaiting, Room, Left, largestDraws, largestFalls, fallLimit, takeLimit}
 use Rattle.settling.proofs.News.{same-then}
 use Rattle.settling.proofs.Written.{levels-as, left-run}
 use Rattle.settling.proofs.Kept.{SameEdges, SameRun, take-kept, take-room, take-same}
@@ -51,16 +51,20 @@ taking-of s places t i v p w e =
     let h : Highest s (suc (base .top)) (found i v) = subst (Highest s (suc (base .top))) e (pick-highest s _ q (suc (base .top))) in
     record { inside = h .0; free = h .1 .0; rank = h .1 .1 .0; level = omega (arith, p .ranks v, h .1 .1 .0) }
 
--- a figure x has room for `left` more takings, each of which adds at most one for each vertex and one more
-abbrev pub RoomFor : Shape → ℕ → ℕ → Type 0
-RoomFor S left x = x + suc (S .most) * left ≤ largestFigure
+-- how far a figure may have come that has room for `left` more takings, each of which adds at most one for each vertex and one more
+abbrev cap : Shape → ℕ → ℕ → ℕ
+cap S largest left = largest - suc (S .most) * left
+
+abbrev pub RoomFor : Shape → ℕ → ℕ → ℕ → Type 0
+RoomFor S largest left x = x + suc (S .most) * left ≤ largest
 
 -- so for one, if one is left, and after it for the others
-room-one : (S : Shape) (left x : ℕ) → RoomFor S left x → 1 ≤ left → x ≤ takeLimit S
-room-one S left x h some = omega (arith, mul-le-mul-left (suc (S .most)) some)
+room-one : (S : Shape) (largest left x : ℕ) → RoomFor S largest left x → 1 ≤ left → x ≤ largest - 1 - S .most
+room-one S largest left x h some = omega (arith, mul-le-mul-left (suc (S .most)) some)
 
-room-others : (S : Shape) (left k x y : ℕ) → RoomFor S left x → left ≡ suc k → y ≤ x + suc (S .most) → RoomFor S k y
-room-others S left k x y h n l = omega (arith, mul-suc (suc (S .most)) k, ap (λ (z : ℕ). suc (S .most) * z) n)
+room-others : (S : Shape) (largest left k x y : ℕ) → RoomFor S largest left x → left ≡ suc k → y ≤ cap S largest left + suc (S .most)
+    → RoomFor S largest k y
+room-others S largest left k x y h n l = omega (arith, mul-suc (suc (S .most)) k, ap (λ (z : ℕ). suc (S .most) * z) n)
 
 -- Before each taking: `left` more takings from the bytes and the tally on lead to where the settling of r leads, and the tally has room
 -- for them.
@@ -70,8 +74,9 @@ pub record TakingsLeft (S : Shape) (words : List ℕ) (r : Run) (width : ℕ) (b
   pub holds : HoldsWaiting places t (read S bs)
   pub long : length places ≡ width
   pub ahead : SameRun (settleIn base words left (running S bs places t)) (settle base words r)
-  pub draws : RoomFor S left (t .draws)
-  pub falls : RoomFor S left (t .falls)
+  pub lent : RoomFor S largestDraws left (length words)
+  pub draws : RoomFor S largestDraws left (t .draws)
+  pub falls : RoomFor S largestFalls left (t .falls)
 
 -- a settling's takings are at most as many as there are places for counts
 most-takings : {S : Shape} {bs : List ℕ} → Held S bs → read S bs .n * suc (base .top) ≤ S .most * S .levels
@@ -86,26 +91,30 @@ module _ {S : Shape} {bs : List ℕ} (h : Held S bs) (n top : ℕ) (e : n ≡ si
   takings-few = rw takings (most-takings h)
 
 -- figures of four bytes have room for all of them
-room-all : {S : Shape} {bs : List ℕ} → Held S bs → (left x : ℕ) → left ≡ read S bs .n * suc (base .top) → x ≤ 1 → RoomFor S left x
-room-all {S} h left x e l =
+room-all : {S : Shape} {bs : List ℕ} → Held S bs → (left : ℕ) → left ≡ read S bs .n * suc (base .top) → RoomFor S largestFalls left 1
+room-all {S} h left e =
     let few : left ≤ S .most * S .levels = rw e (most-takings h) in omega (arith, mul-le-mul-left (suc (S .most)) few, held-good h .figures)
 
-pub going-start : {S : Shape} (words bs places : List ℕ) (left : ℕ) (t : Tally) → Held S bs → Ordered (read S bs) → HoldsWaiting places t (read S bs) → Room 1 0 t
-    → left ≡ read S bs .n * suc (base .top) → TakingsLeft S words (running S bs places t) (length places) bs places left t
+pub going-start : {S : Shape} (words bs places : List ℕ) (left : ℕ) (t : Tally) → Held S bs → Ordered (read S bs) → HoldsWaiting places t (read S bs)
+    → Room (suc (length words)) 0 t → length words * 4 < 2 ^ 63 → left ≡ read S bs .n * suc (base .top) → TakingsLeft S words (running S bs places t) (length places) bs places left t
 unfolding settle
-going-start words bs places left t h o w m e = record {
+going-start words bs places left t h o w m lent e = record {
   held = h;
   ordered = o;
   holds = w;
   long = refl;
   ahead = rw e (record { state = refl; queues = refl; draws = refl; falls = refl });
-  draws = room-all h left (t .draws) e (m .draws);
-  falls = room-all h left (t .falls) e (omega (arith, m .falls));
+  lent = omega (arith, room-all h left e, lent);
+  draws = omega (arith, room-all h left e, lent, m .draws);
+  falls = omega (arith, room-all h left e, m .falls);
 }
 
 module _ {S : Shape} {words : List ℕ} {r : Run} {width : ℕ} {bs places : List ℕ} {left : ℕ} {t : Tally} (g : TakingsLeft S words r width bs places left t) where
-  pub going-room : 1 ≤ left → Room (takeLimit S) (takeLimit S) t
-  going-room some = record { draws = room-one S left (t .draws) (g .draws) some; falls = room-one S left (t .falls) (g .falls) some }
+  pub going-room : 1 ≤ left → Room (takeLimit S) fallLimit t
+  going-room some = record {
+    draws = omega (arith, room-one S largestDraws left (t .draws) (g .draws) some);
+    falls = omega (arith, room-one S largestFalls left (t .falls) (g .falls) some);
+  }
 
   -- where no taking follows, the settling is done
   going-left : settleIn base words left (running S bs places t) ≡ running S bs places t → Left (settle base words r) bs places t
@@ -134,8 +143,8 @@ module _ {S : Shape} {words : List ℕ} {r : Run} {width : ℕ} {bs places : Lis
       let p : Proper S (read S bs) = g .held .proper in
       let a : Takable (read S bs) i v = taking-of (read S bs) places t i v p (g .holds) e in
       let h : SameEdges S (read S bs) (q .state) = take-kept words i v (running S bs places t) p (g .ordered) (a .inside) (a .rank) (a .level) in
-      let m : (q .draws ≤ t .draws + suc (S .most)) × (q .falls ≤ suc (t .falls)) =
-      take-room words i v (running S bs places t) p (g .ordered) (a .inside) (a .rank) (a .level) in
+      let m : (q .draws ≤ cap S largestDraws left + suc (S .most)) × (q .falls ≤ suc (t .falls)) =
+      take-room words i v (running S bs places t) p (g .ordered) (a .inside) (a .rank) (a .level) (omega (arith, g .lent)) (omega (arith, g .draws)) in
       let s : SameRun (running S bs₁ places₁ t₁) q = left-run l (h .proper) in
       record {
         held = held-of bs₁ (q .state) (l .rack) (h .proper);
@@ -143,6 +152,7 @@ module _ {S : Shape} {words : List ℕ} {r : Run} {width : ℕ} {bs places : Lis
         holds = subst (HoldsWaiting places₁ t₁) (sym (s .state)) (l .holds);
         long = same-long ∙ g .long;
         ahead = same-then (settle-same words k (running S bs₁ places₁ t₁) q s) (rw (n, settle-step base words k i v (running S bs places t) e) at (g .ahead));
-        draws = room-others S left k (t .draws) (t₁ .draws) (g .draws) n (omega (arith, l .draws, m .0));
-        falls = room-others S left k (t .falls) (t₁ .falls) (g .falls) n (omega (arith, l .falls, m .1));
+        lent = room-others S largestDraws left k (length words) (length words) (g .lent) n (omega (arith, g .lent));
+        draws = room-others S largestDraws left k (t .draws) (t₁ .draws) (g .draws) n (omega (arith, l .draws, m .0));
+        falls = room-others S largestFalls left k (t .falls) (t₁ .falls) (g .falls) n (omega (arith, l .falls, m .1, g .falls));
       }

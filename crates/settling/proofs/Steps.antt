@@ -10,14 +10,15 @@ use lib.ListN.{length, getD}
 use Rattle.model.specs.Counting.{listed}
 use Rattle.model.specs.Shape.{Shape}
 use Rattle.model.specs.State.{base, State, edge, near, below, phi}
-use Rattle.model.specs.Moves.{Run, lifted, part, rise, marry, handOver, place, chosen, drawn, draw, promote, due}
+use Rattle.model.specs.Words.{place}
+use Rattle.model.specs.Moves.{Run, lifted, part, rise, marry, handOver, chosen, drawn, draw, promote, due}
 use Rattle.model.specs.Change.{reown}
 use Rattle.model.proofs.Tests.{holds?, T-true, T-false, and-left, and-right}
 use Rattle.model.proofs.Prefix.{count-ext}
 use Rattle.model.proofs.Lists.{All-at, listed-length, listed-all, getD-mem}
 use Rattle.model.proofs.Limits.{phi-below}
 use Rattle.theory.proofs.Matching.{base-pos}
-use Rattle.theory.proofs.Runs.{place-less}
+use Rattle.model.proofs.Deciding.{place-less}
 use Rattle.moves.specs.Proper.{Proper, Ordered, tookOver, ranked, RowBelow}
 use Rattle.moves.proofs.Edges.{near-edge, near-low, edge-loop, simple}
 use Rattle.moves.proofs.Keeps.{part-proper, marry-proper, hand-proper, ranked-proper, rise-proper, took-proper, took-edge, hand-edge, rise-ordered, hand-ordered, fall-ordered, ranked-near}

@@ -9,7 +9,7 @@ use lib.ListN.{length, take}
 use Rattle.model.specs.Shape.{Shape}
 use Rattle.model.specs.State.{base, State, near, below}
 use Rattle.model.specs.Bytes.{phiAt, read, write}
-use Rattle.model.specs.Moves.{Run, lifted, part, rise, marry, chosen, drawn, draw, promote}
+use Rattle.model.specs.Moves.{Run, lifted, part, rise, marry, chosen, spent, drawn, draw, promote}
 use Rattle.model.proofs.Limits.{phi-above}
 use Rattle.theory.specs.Waiting.{marks, queuesIn, partQueue}
 use Rattle.theory.proofs.Fits.{lift-is}
@@ -178,14 +178,14 @@ module _ {S : Shape} {bs : List ℕ} {i u y : ℕ} (a : Drawing S bs i u y) {b :
   module _ {places places′ : List ℕ} {t t′ : Tally} (h : HoldsWaitingBut u places t (read S bs))
       (q : Requeued (partQueue (marks (read S bs)) y (queueIn places t)) t places′ t′) (long : length places′ ≡ length places) where
     pub drawn-left : (words : List ℕ) {d : List ℕ} {r : Tally} → y ≡ chosen words i u (running S bs [] t) → d ≡ write (marry u y (read S b))
-        → (r .draws ≡ suc (t′ .draws)) × (r .falls ≡ t′ .falls) × (r .waiting ≡ t′ .waiting) → Left (draw words i u (running S bs places t)) d places′ r
-    unfolding draw drawn chosen
+        → (r .draws ≡ spent words i u (running S bs [] t)) × (r .falls ≡ t′ .falls) × (r .waiting ≡ t′ .waiting) → Left (draw words i u (running S bs places t)) d places′ r
+    unfolding draw drawn chosen spent
     drawn-left words {d} {r} c f g =
-        subst (λ (x : ℕ). Left (drawn i u x (running S bs places t)) d places′ r) c (record {
+        subst (λ (x : ℕ). Left (drawn i u x (spent words i u (running S bs places t)) (running S bs places t)) d places′ r) c (record {
           rack = f ∙ ap (λ (s : State). write (marry u y s)) (lifted-read (a .rising) e);
           queues = ap (λ (k : ℕ). queuesIn (marry u y (rise i y (part y (read S bs))) .rank) (take k places′)) (g .2)
               ∙ drawn-levels long h q i (drawing-other a) (a .free) (a .rank) (a .rising .inside);
-          draws = omega (arith, g .0, q .draws);
+          draws = g .0;
           falls = omega (arith, g .1, q .falls);
           holds = holds-as _ (g .2) (drawn-holds long h q i (drawing-other a) (a .free) (a .rank) (a .rising .inside));
         })

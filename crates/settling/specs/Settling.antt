@@ -70,13 +70,19 @@ pub record Falling (S : Shape) (bs : List ℕ) (i v k : ℕ) : Type 0 where
   pub row : RowBelow i v (read S bs)
   pub size : k ≡ below (read S bs) v i
 
--- The largest figure that four bytes hold. So far may a figure have come for one draw or fall more to be counted, and so far for a whole taking,
--- which draws at most once for each vertex and once more.
-abbrev pub largestFigure : ℕ
-largestFigure = 4294967295
+-- The largest figures that are held: of draws in eight bytes, since no call limits a word list, of falls in four. So far may a figure have come for
+-- one draw or fall more to be counted, and so far the draws for a whole taking, which draws at most once for each vertex and once more.
+abbrev pub largestDraws : ℕ
+largestDraws = 18446744073709551615
+
+abbrev pub largestFalls : ℕ
+largestFalls = 4294967295
+
+abbrev pub fallLimit : ℕ
+fallLimit = largestFalls - 1
 
 abbrev pub drawLimit : ℕ
-drawLimit = largestFigure - 1
+drawLimit = largestDraws - 1
 
 abbrev pub takeLimit : Shape → ℕ
 takeLimit S = drawLimit - S .most

@@ -3,16 +3,15 @@
 ghost use mathlib.Core.Path.{_≡_};
 ghost use mathlib.Core.List.{[], _∷_, _++_};
 ghost use Prim.Native.Nat.{suc, _<_, _≤_};
-ghost use lib.Dec.{T};
-ghost use lib.ListN.{length, getD, take as front};
+ghost use lib.ListN.{length, take as front};
 ghost use Rattle.model.specs.Shape.{low};
 ghost use Rattle.model.specs.Lists.{All, Mem, Distinct};
-ghost use Rattle.model.specs.State.{base, near, below};
+ghost use Rattle.model.specs.State.{base, below};
 ghost use Rattle.model.specs.Bytes.{read, write};
-ghost use Rattle.model.specs.Moves.{part as parted, rise as risen, chosen, draw as drawn, promote as promoted, without, fall as fallen, scanFrom, take as taken, pick as picked, settle as settled};
+ghost use Rattle.model.specs.Moves.{part as parted, rise as risen, draw as drawn, promote as promoted, without, fall as fallen, scanFrom, take as taken, pick as picked, settle as settled};
 ghost use Rattle.theory.specs.Waiting.{marks, queuesIn, joinQueue, partQueue};
 ghost use Rattle.moves.specs.Proper.{Ordered, Held, RowBelow};
-ghost use Rattle.settling.specs.Settling.{queueIn, running, HoldsWaitingBut, HoldsWaiting, CanPart, Requeued, Falling, Room, Left, visited, foundBy, drawLimit, takeLimit};
+ghost use Rattle.settling.specs.Settling.{queueIn, running, HoldsWaitingBut, HoldsWaiting, CanPart, Requeued, Falling, Room, Left, visited, foundBy, drawLimit, fallLimit, takeLimit};
 
 pub mod tally;
 
@@ -22,16 +21,6 @@ use tally::Tally;
 pub enum Choice {
     At { i: usize, v: usize },
     Nothing,
-}
-
-// The word with number k; past the lent words 0, which no change comes to.
-fn nth_word(words: &[u32], k: usize) -> u32
-    ensures { λ r. ⌜ r ≡ getD (now (words .entry)) k 0 ⌝ }
-{
-    if k < words.len() {
-        return words[k];
-    }
-    0
 }
 
 // v joins the end of the queue.
@@ -69,16 +58,6 @@ fn requeue(rack: &[u8], queue: &mut [u16], v: usize, tally: Tally) -> Tally
     leave(queue, v, tally)
 }
 
-// The vertex that the next word draws: u's row holds its neighbours below level i, k of them, and trailing zeros lead to the place in it.
-fn choose(rack: &[u8], words: &[u32], u: usize, i: usize, k: usize, tally: Tally) -> usize
-    requires { ⌜ Held low (now rack) ⌝ }
-    requires { ⌜ (u < read low (now rack) .n) × (RowBelow i u (read low (now rack))) × (1 ≤ below (read low (now rack)) u i) × (k ≡ below (read low (now rack)) u i) ⌝ }
-    ensures { λ r. ⌜ (r ≡ chosen (now (words .entry)) i u (running low (now (rack .entry)) [] tally)) × (T (near (read low (now (rack .entry))) u i r)) ⌝ }
-{
-    let word = nth_word(words, tally.draws as usize);
-    layout::nth_owned(rack, u, word as usize % k)
-}
-
 // v loses its mate if it has one, which joins the queue, and rises to i.
 fn lift(rack: &mut [u8], queue: &mut [u16], v: usize, i: usize, tally: Tally) -> Tally
     requires { ⌜ (Held low (now rack)) × (Ordered (read low (now rack))) ⌝ }
@@ -93,7 +72,7 @@ fn lift(rack: &mut [u8], queue: &mut [u16], v: usize, i: usize, tally: Tally) ->
     t
 }
 
-// "Draw at u, level i", once u's row holds exactly its neighbours below i, k of them.
+// "Draw at u, level i", once u's row holds exactly its neighbours below i, k of them: trailing zeros lead to the place that the word gives.
 fn draw(
     rack: &mut [u8],
     queue: &mut [u16],
@@ -109,10 +88,11 @@ fn draw(
     requires { ⌜ (HoldsWaitingBut u (now queue) tally (read low (now rack))) × (tally .draws ≤ drawLimit) ⌝ }
     ensures { λ r. ⌜ Left (drawn (now (words .entry)) i u (running low (now (rack .entry)) (now (queue .entry)) tally)) (now (rack .exit)) (now (queue .exit)) r ⌝ }
 {
-    let y = choose(rack, words, u, i, k, tally);
+    let by = drawing::decide(words, tally.draws as usize, k);
+    let y = layout::nth_owned(rack, u, by.place);
     let t = lift(rack, queue, y, i, tally);
     moves::pair(rack, u, y);
-    t.drew()
+    t.drew(by.number as u64 + 1)
 }
 
 // "loses its mate if it has one, rises to i and draws": its count at i says among how many.
@@ -206,7 +186,7 @@ fn fall(
 ) -> Tally
     requires { ⌜ (Held low (now rack)) × (Ordered (read low (now rack))) ⌝ }
     requires { ⌜ Falling low (now rack) i v k ⌝ }
-    requires { ⌜ (HoldsWaitingBut v (now queue) tally (read low (now rack))) × (Room (takeLimit low) (takeLimit low) tally) ⌝ }
+    requires { ⌜ (HoldsWaitingBut v (now queue) tally (read low (now rack))) × (Room (takeLimit low) fallLimit tally) ⌝ }
     ensures { λ r. ⌜ Left (scanFrom base (now (words .entry)) i v (fallen i v (running low (now (rack .entry)) (now (queue .entry)) tally))) (now (rack .exit)) (now (queue .exit)) r ⌝ }
 {
     let low = moves::fall(rack, v, i, k);
@@ -228,7 +208,7 @@ fn take(
 ) -> Tally
     requires { ⌜ (Held low (now rack)) × (Ordered (read low (now rack))) ⌝ }
     requires { ⌜ (v < read low (now rack) .n) × (read low (now rack) .mate v ≡ v) × (read low (now rack) .rank v ≡ suc i) × (i ≤ base .top) ⌝ }
-    requires { ⌜ (HoldsWaiting (now queue) tally (read low (now rack))) × (Room (takeLimit low) (takeLimit low) tally) ⌝ }
+    requires { ⌜ (HoldsWaiting (now queue) tally (read low (now rack))) × (Room (takeLimit low) fallLimit tally) ⌝ }
     ensures { λ r. ⌜ Left (taken base (now (words .entry)) i v (running low (now (rack .entry)) (now (queue .entry)) tally)) (now (rack .exit)) (now (queue .exit)) r ⌝ }
 {
     let t = leave(queue, v, tally);
@@ -270,7 +250,7 @@ fn pick(rack: &[u8], queue: &[u16], k: usize) -> Choice
 // "The settling: while any board waits, take one": never more takings than n times the number of levels from 0 on.
 pub fn settle(rack: &mut [u8], queue: &mut [u16], words: &[u32], tally: Tally) -> Tally
     requires { ⌜ (Held low (now rack)) × (Ordered (read low (now rack))) ⌝ }
-    requires { ⌜ (HoldsWaiting (now queue) tally (read low (now rack))) × (Room 1 0 tally) ⌝ }
+    requires { ⌜ (HoldsWaiting (now queue) tally (read low (now rack))) × (Room (suc (length (now words))) 0 tally) ⌝ }
     ensures { λ r. ⌜ Left (settled base (now (words .entry)) (running low (now (rack .entry)) (now (queue .entry)) tally)) (now (rack .exit)) (now (queue .exit)) r ⌝ }
 {
     let mut left = layout::size(rack) * (layout::top() + 1);

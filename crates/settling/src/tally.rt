@@ -1,11 +1,11 @@
 // The figures of a change on its way.
 ghost use mathlib.Core.Path.{_≡_};
 ghost use Prim.Native.Nat.{suc, _≤_};
-ghost use Rattle.settling.specs.Settling.{drawLimit};
+ghost use Rattle.settling.specs.Settling.{fallLimit};
 
 // "A change answers 0, its draws, its falls": both figures, and how many vertices wait, handed on from move to move.
 pub struct Tally {
-    pub draws: u32,
+    pub draws: u64,
     pub falls: u32,
     pub waiting: usize,
 }
@@ -22,13 +22,12 @@ impl Tally {
         }
     }
 
-    // One more draw.
-    pub fn drew(self) -> Self
-        requires { ⌜ self .draws ≤ drawLimit ⌝ }
-        ensures { λ r. ⌜ (r .draws ≡ suc (self .draws)) × (r .falls ≡ self .falls) × (r .waiting ≡ self .waiting) ⌝ }
+    // A draw, after which so many words are used.
+    pub fn drew(self, used: u64) -> Self
+        ensures { λ r. ⌜ (r .draws ≡ used) × (r .falls ≡ self .falls) × (r .waiting ≡ self .waiting) ⌝ }
     {
         Tally {
-            draws: self.draws + 1,
+            draws: used,
             falls: self.falls,
             waiting: self.waiting,
         }
@@ -36,7 +35,7 @@ impl Tally {
 
     // One more fall.
     pub fn fell(self) -> Self
-        requires { ⌜ self .falls ≤ drawLimit ⌝ }
+        requires { ⌜ self .falls ≤ fallLimit ⌝ }
         ensures { λ r. ⌜ (r .draws ≡ self .draws) × (r .falls ≡ suc (self .falls)) × (r .waiting ≡ self .waiting) ⌝ }
     {
         Tally {

@@ -8,7 +8,8 @@ use lib.Dec.{T, leb}
 use lib.ListN.{length, getD}
 use Rattle.model.specs.Counting.{count, listed}
 use Rattle.model.specs.State.{edge, Rules, State, near, below, phi, free}
-use Rattle.model.specs.Moves.{at, lifted, handed, leave, join, parting, draw, drawn, fall, Run, none, found, part, rise, marry, place, chosen, promote, handOver, due}
+use Rattle.model.specs.Words.{place, deciding}
+use Rattle.model.specs.Moves.{at, lifted, handed, leave, join, parting, draw, drawn, fall, Run, none, found, part, rise, marry, chosen, spent, promote, handOver, due}
 use Rattle.model.specs.Change.{reaches, riser}
 use Rattle.model.proofs.Tests.{bool-ext}
 use Rattle.theory.proofs.Marks.{Marks, marks, Setting, Simple, nearIn}
@@ -85,13 +86,14 @@ lift-same {r} i u S = record {
   falls = S .falls;
 }
 
-pub drawn-same : {r r′ : Run} (i u : ℕ) {y y′ : ℕ} → Same r r′ → y ≡ y′ → Same (drawn i u y r) (drawn i u y′ r′)
+pub drawn-same : {r r′ : Run} (i u : ℕ) {y y′ used used′ : ℕ} → Same r r′ → y ≡ y′ → used ≡ used′
+    → Same (drawn i u y used r) (drawn i u y′ used′ r′)
 unfolding drawn marry rise part parting free dress
-drawn-same {r} i u S e = record {
+drawn-same {r} i u S e f = record {
   marked = λ k. marks (marry u (e k) (rise i (e k) (part (e k) (dress (r .state) (S .marked k)))));
   queues = λ k. parting (dress (r .state) (S .marked k)) (e k) (S .queues k);
   news = λ k. record { a = u; b = e k } ∷ S .news k;
-  draws = ap suc (S .draws);
+  draws = f;
   falls = S .falls;
 }
 
@@ -112,9 +114,15 @@ module _ (P : Setting) (E : Simple (P .n) (P .edge)) (words : List ℕ) where
       let A : Alike (r .state) (r′ .state) = alike-of P E F F′ (S .marked) in
       λ k. getD (listed (near-alike A u i k) (A .size k)) (place words (S .draws k) (length (listed (near-alike A u i k) (A .size k)))) 0
 
+  spent-same : {r r′ : Run} (i u : ℕ) → Same r r′ → Fits P (r .state) → Fits P (r′ .state) → spent words i u r ≡ spent words i u r′
+  unfolding spent
+  spent-same {r} {r′} i u S F F′ =
+      let A : Alike (r .state) (r′ .state) = alike-of P E F F′ (S .marked) in
+      λ k. suc (deciding words (S .draws k) (below-alike A u i k))
+
   pub draw-same : {r r′ : Run} (i u : ℕ) → Same r r′ → Fits P (r .state) → Fits P (r′ .state) → Same (draw words i u r) (draw words i u r′)
   unfolding draw
-  draw-same i u S F F′ = drawn-same i u S (chosen-same i u S F F′)
+  draw-same i u S F F′ = drawn-same i u S (chosen-same i u S F F′) (spent-same i u S F F′)
 
   pub promote-same : {r r′ : Run} (i u : ℕ) → Same r r′ → Fits P (r .state) → Fits P (r′ .state) → r .state .rank u ≤ i → r′ .state .rank u ≤ i
       → Same (promote words i u r) (promote words i u r′)

@@ -13,7 +13,7 @@ use Rattle.model.specs.Counting.{sum, count}
 use Rattle.model.specs.State.{Rules, lowKind, State, base, edge, near, below}
 use Rattle.model.specs.Valid.{Valid}
 use Rattle.model.specs.Moves.{Run, found, ownedBy, handOver, pick}
-use Rattle.model.specs.Change.{Change, number}
+use Rattle.model.specs.Change.{Change, early}
 use Rattle.model.proofs.Tests.{bool-ext, le?, and-intro, and-left, and-right}
 use Rattle.model.proofs.Counting.{count-parts}
 use Rattle.theory.specs.Waiting.{marks}
@@ -96,8 +96,8 @@ module _ (P : Setting) (E : Simple (P .n) (P .edge)) (i v : ℕ) (s : State) (F 
 pub parts : (s : State) → Simple (s .n) (edge s) → Owns (edge s) (s .owns) (marks s) → (i v : ℕ) → s .rank v ≡ suc i → Parts i v s (handOver i v s)
 parts s E O i v e = fits-parts (setting base s) E i v s (record { kind = refl; size = refl; owners = O }) e
 
--- Each taking of every accepted change of a valid state.
-pub taken-parts : (R : Rules) → ((j : ℕ) → 1 ≤ R .thr j) → (s : State) → Valid R s → (c : Change) → number (s .n) (edge s) c ≡ 0
+-- Each taking of every change of a valid state that none of 7 to 11 fits, so of every accepted one.
+pub taken-parts : (R : Rules) → ((j : ℕ) → 1 ≤ R .thr j) → (s : State) → Valid R s → (c : Change) → early (s .n) (edge s) c ≡ 0
     → (r t : Run) → Settles R s c r → Through R (c .words) r t → (i v : ℕ) → pick (suc (R .top)) (t .queues) ≡ found i v
     → Parts i v (t .state) (handOver i v (t .state))
 taken-parts R pos s H c z r t S way i v e =

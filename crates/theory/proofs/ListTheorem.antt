@@ -12,11 +12,11 @@ use Rattle.model.specs.Sound.{sound}
 use Rattle.model.specs.Valid.{IsBytes}
 use Rattle.model.specs.Change.{Change, Changed, change, accepted, refused}
 use Rattle.model.specs.Calls.{sized, ChangedBytes, changeBytes}
-use Rattle.model.specs.Ledger.{Ledger, ledgerOf, ledgerNumber, entered, enteredAll}
+use Rattle.model.specs.Ledger.{Ledger, Told, tell, ledgerOf, ledgerNumber, entered, enteredAll}
 use Rattle.model.proofs.Shapes.{low-good, low-room}
 use Rattle.model.proofs.Reading.{read-write}
 use Rattle.model.proofs.Bridge.{sound-valid}
-use Rattle.theory.specs.Demand.{lastRack, pairsOf, Call, Calls, Facts, Demand}
+use Rattle.theory.specs.Demand.{lastRack, toldOf, toldAll, pairsOf, Call, Calls, Facts, Demand}
 use Rattle.theory.proofs.ChangeStep.{Step, ledger}
 use Rattle.theory.proofs.OnBytes.{Rack, rack-of, step, next-rack, call-leaves, pairs-of}
 use Rattle.theory.proofs.LastRack.{last-facts}
@@ -32,52 +32,68 @@ module _ (s : State) (ok : Rack s) (c : Change) where
   t : Step base s c (change base s c)
   t = step s (ok .valid) c
 
+  -- what the ledger is told, from the bytes
+  pub told-is : tell base s c ≡ toldOf of (write s) c
+  told-is = ap (λ (x : State). tell base x c) (sym (read-write base s (ok .good) (ok .valid)))
+
   -- the ledger after the change is that of the rack after it
-  pub next-ledger : entered (ledger s) c ≡ ledger (change base s c .state)
-  next-ledger = λ i. record { n = (t .ledger-size ∙ sym (t .size)) i; there = sym (t .edges) i }
+  pub next-ledger : entered (ledger s) (toldOf of (write s) c) ≡ ledger (change base s c .state)
+  next-ledger = ap (entered (ledger s)) (sym told-is) ∙ (λ i. record { n = (t .ledger-size ∙ sym (t .size)) i; there = sym (t .edges) i })
 
   -- what is said of the rack after it, by its own shape and ledger, holds by the shape before it and the ledger as kept
-  pub kept-on : (P : Shape → Ledger → Type 0) → P (change base s c .state .kind .shape) (ledger (change base s c .state)) → P of (entered (ledger s) c)
+  pub kept-on : (P : Shape → Ledger → Type 0) → P (change base s c .state .kind .shape) (ledger (change base s c .state))
+      → P of (entered (ledger s) (toldOf of (write s) c))
   kept-on P h = subst (P of) (sym next-ledger) (subst (λ (K : Kind). P (K .shape) (ledger (change base s c .state))) (t .kind) h)
 
+  -- its number is the ledger's
+  number-is : change base s c .answer .number ≡ ledgerNumber (ledger s) (toldOf of (write s) c)
+  unfolding ledgerNumber
+  number-is = t .number ∙ ap (ledgerNumber (ledger s)) told-is
+
+  -- the moves from the bytes are those from the state
+  moves-are : (ledgerNumber (ledger s) (toldOf of (write s) c) ≡ 0) → change base s c ≡ accepted base (read of (write s)) c
+  moves-are e = t .accepted-is (number-is ∙ e) ∙ ap (λ (x : State). accepted base x c) (sym (read-write base s (ok .good) (ok .valid)))
+
   one-call : Call of (ledger s) (write s) c (leaves s c)
-  unfolding leaves ledgerNumber base
+  unfolding leaves base
   one-call = record {
-    number = t .number;
+    number = number-is;
     refused-keeps = λ d.
-        let k = t .refused-keeps (λ e. d (sym (t .number) ∙ e)) in
-        (k .1 ∙ ap refused (t .number), ap write (k .0));
-    accepted-moves = λ e.
-        ap (λ (x : Changed). write (x .state)) (t .accepted-is (t .number ∙ e))
-        ∙ ap (λ (x : State). write (accepted base x c .state)) (sym (read-write base s (ok .good) (ok .valid)));
+        let k = t .refused-keeps (λ e. d (sym number-is ∙ e)) in
+        (k .1 ∙ ap refused number-is, ap write (k .0));
+    accepted-moves = λ e. ap (λ (x : Changed). write (x .state)) (moves-are e);
+    accepted-draws = λ e. ap (λ (x : Changed). x .answer .draws) (moves-are e);
     accepted-pairs = λ e.
         let d : Changed = change base s c in
-        kept-on (λ S l. d .answer .pairs ≡ pairsOf S l (write (d .state))) (t .pairs-held (t .number ∙ e) ∙ pairs-of (d .state) (next-rack s ok c));
+        kept-on (λ S l. d .answer .pairs ≡ pairsOf S l (write (d .state))) (t .pairs-held (number-is ∙ e) ∙ pairs-of (d .state) (next-rack s ok c));
     once = t .once;
-    draws-new = t .draws-new;
-    draws-half = t .draws-half;
+    news-half = t .news-half;
+    news-drawn = t .news-drawn;
+    draws-lent = t .draws-lent;
     falls-few = t .falls-few;
   }
 
 -- from the bytes of a valid state, with its own ledger
 pub from-valid : (s : State) → Rack s → (cs : List Change) → Demand (s .kind .shape) (ledger s) (write s) cs
-unfolding Calls enteredAll lastRack leaves
+unfolding Calls enteredAll toldAll lastRack leaves
 from-valid s ok [] = record { calls = tt; last = last-facts s ok }
 from-valid s ok (c ∷ cs) =
     let S : Shape = s .kind .shape in
     let d : Changed = change base s c in
-    let rest : Demand S (entered (ledger s) c) (write (d .state)) cs =
+    let l : Ledger = entered (ledger s) (toldOf S (write s) c) in
+    let rest : Demand S l (write (d .state)) cs =
     kept-on s ok c (λ S l. Demand S l (write (d .state)) cs) (from-valid (d .state) (next-rack s ok c) cs) in
     let now : Call S (ledger s) (write s) c (changeBytes base S (write s) c) =
     subst (Call S (ledger s) (write s) c) (sym (call-leaves s ok c)) (one-call s ok c) in
     let e : write (d .state) ≡ changeBytes base S (write s) c .rack = ap (λ (x : ChangedBytes). x .rack) (sym (call-leaves s ok c)) in
     record {
-      calls = (now, subst (λ (x : List ℕ). Calls S (entered (ledger s) c) x cs) e (rest .calls));
-      last = subst (λ (x : List ℕ). Facts S (enteredAll (entered (ledger s) c) cs) (lastRack S x cs)) e (rest .last);
+      calls = (now, subst (λ (x : List ℕ). Calls S l x cs) e (rest .calls));
+      last = subst (λ (x : List ℕ). Facts S (enteredAll l (toldAll S x cs)) (lastRack S x cs)) e (rest .last);
     }
 
 -- From any sound rack, fresh or not, of any good shape: bs is any list of as many bytes that is sound, and cs any list of changes, each with any
--- code, any two boards and any word list. The ledger starts from bs and sees the changes alone.
+-- code, any two boards and any word list. The ledger starts from bs and sees the changes alone, and is told of
+-- each whether the change as defined runs out of words.
 pub demand-three : (S : Shape) → GoodShape S → base .top < S .levels → (bs : List ℕ) → IsBytes bs → T (sized S bs) → T (sound base S bs) → (cs : List Change)
     → Demand S (ledgerOf S bs) bs cs
 unfolding sized ledgerOf read

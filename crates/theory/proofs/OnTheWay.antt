@@ -9,7 +9,7 @@ use lib.Dec.{T}
 use Rattle.model.specs.State.{Rules, State, edge}
 use Rattle.model.specs.Valid.{Valid}
 use Rattle.model.specs.Moves.{Run, found, promote}
-use Rattle.model.specs.Change.{Change, lower, upper, start, startParted, reown, withoutEdge, withEdge, addEdge, riser, number}
+use Rattle.model.specs.Change.{Change, lower, upper, start, startParted, reown, withoutEdge, withEdge, addEdge, riser, early}
 use Rattle.model.proofs.Tests.{le?, leb-yes, leb-no}
 use Rattle.theory.specs.Serving.{Settles, by-add, by-drop, Through, begun, taking}
 use Rattle.theory.proofs.Marks.{Setting, setting, rules, rejoin, Simple, Inv}
@@ -19,7 +19,7 @@ use Rattle.theory.proofs.Settling.{turn-of}
 use Rattle.theory.proofs.EdgeSets.{with-added, without-dropped, with-simple, without-simple, add-marks, add-fits, drop-fits}
 use Rattle.theory.proofs.Adding.{Rises, riser-is, riser-good}
 use Rattle.theory.proofs.Dropping.{parted-good}
-use Rattle.theory.proofs.Numbers.{Fitting, number-zero}
+use Rattle.theory.proofs.Numbers.{Fitting, early-zero}
 use Rattle.theory.proofs.ValidState.{valid-simple, valid-fits, valid-inv}
 
 -- the run is in order among the vertices of s, with the edges that the change has made of those of s
@@ -49,10 +49,10 @@ module _ (R : Rules) (pos : (j : ℕ) → 1 ≤ R .thr j) (s : State) (H : Valid
   E : Simple (s .n) (edge s)
   E = valid-simple R s H
 
-  ends-of : (c : Change) → number (s .n) (edge s) c ≡ 0 → TwoEnds s (c .code) (lower (c .a) (c .b)) (upper (c .a) (c .b))
+  ends-of : (c : Change) → early (s .n) (edge s) c ≡ 0 → TwoEnds s (c .code) (lower (c .a) (c .b)) (upper (c .a) (c .b))
   unfolding lower upper
   ends-of c z =
-      let A : Fitting (s .n) (edge s) c = number-zero (s .n) (edge s) c z in
+      let A : Fitting (s .n) (edge s) c = early-zero (s .n) (edge s) c z in
       elim (le? (c .a) (c .b)) [
         | inl l ↦ rw (leb-yes (c .a) (c .b) l, lower, upper) (record { a-in = A .a-in; b-in = A .b-in; apart = A .apart; absent = A .absent })
         | inr l ↦ rw (leb-no (c .a) (c .b) l, lower, upper) (record {
@@ -96,7 +96,7 @@ module _ (R : Rules) (pos : (j : ℕ) → 1 ≤ R .thr j) (s : State) (H : Valid
             (valid-inv R s H) (A .a-in) (A .b-in) (A .apart) e;
       }
 
-  begins : (c : Change) → number (s .n) (edge s) c ≡ 0 → (r : Run) → Settles R s c r → OnTheWay R s r
+  begins : (c : Change) → early (s .n) (edge s) c ≡ 0 → (r : Run) → Settles R s c r → OnTheWay R s r
   begins c z _ (by-add {i} {u} p e) =
       let a : ℕ = lower (c .a) (c .b) in
       let b : ℕ = upper (c .a) (c .b) in
@@ -104,7 +104,7 @@ module _ (R : Rules) (pos : (j : ℕ) → 1 ≤ R .thr j) (s : State) (H : Valid
   begins c z _ (by-drop p e) = dropping (c .words) (c .code) (lower (c .a) (c .b)) (upper (c .a) (c .b)) (ends-of c z) e
 
   -- and so is every run on the way
-  pub on-the-way : (c : Change) → number (s .n) (edge s) c ≡ 0 → (r t : Run) → Settles R s c r → Through R (c .words) r t → OnTheWay R s t
+  pub on-the-way : (c : Change) → early (s .n) (edge s) c ≡ 0 → (r t : Run) → Settles R s c r → Through R (c .words) r t → OnTheWay R s t
   on-the-way c z r t S way =
       let B : OnTheWay R s r = begins c z r S in
       let g = through-good (rejoin (setting R s) (B .there)) (B .simple) pos (c .words) (B .m) r (B .good) t way in

@@ -20,7 +20,7 @@ use Rattle.model.proofs.Sums.{sum-swap}
 use Rattle.model.proofs.Shapes.{low-good, low-room}
 use Rattle.model.proofs.Facts.{Facts as Tested, sound-says}
 use Rattle.model.proofs.Rosters.{roster-size}
-use Rattle.theory.specs.Demand.{lastRack, Facts}
+use Rattle.theory.specs.Demand.{toldAll, lastRack, Facts}
 use Rattle.theory.specs.Rosters.{Rosters}
 use Rattle.theory.proofs.ListTheorem.{demand-three}
 
@@ -67,10 +67,10 @@ module _ {S : Shape} (room : base .top < S .levels) {l : Ledger} {bs : List ℕ}
 
 -- After any list of changes, from any sound rack of any good shape.
 pub rosters-after : (S : Shape) → GoodShape S → base .top < S .levels → (bs : List ℕ) → IsBytes bs → T (sized S bs) → T (sound base S bs)
-    → (cs : List Change) → Rosters S (enteredAll (ledgerOf S bs) cs) (lastRack S bs cs)
+    → (cs : List Change) → Rosters S (enteredAll (ledgerOf S bs) (toldAll S bs cs)) (lastRack S bs cs)
 rosters-after S good room bs by sz so cs = rosters-of room (demand-three S good room bs by sz so cs .last)
 
 -- The rack of the papers, of 10,152 bytes.
 pub rosters-low : (bs : List ℕ) → IsBytes bs → T (sized low bs) → T (sound base low bs) → (cs : List Change)
-    → Rosters low (enteredAll (ledgerOf low bs) cs) (lastRack low bs cs)
+    → Rosters low (enteredAll (ledgerOf low bs) (toldAll low bs cs)) (lastRack low bs cs)
 rosters-low = rosters-after low low-good low-room

@@ -7,7 +7,7 @@ use native.Mathlib.Omega.{arith}
 use Rattle.model.specs.State.{Rules, State, edge}
 use Rattle.model.specs.Valid.{Valid}
 use Rattle.model.specs.Moves.{Run, Found, none, found, pick}
-use Rattle.model.specs.Change.{Change, number}
+use Rattle.model.specs.Change.{Change, early}
 use Rattle.theory.specs.Waiting.{marks}
 use Rattle.theory.specs.Serving.{Settles, Through, Served}
 use Rattle.theory.proofs.Marks.{Setting, setting, rejoin}
@@ -54,8 +54,8 @@ good-serves P r G = go (pick (suc (P .top)) (r .queues)) refl (good-highest P r 
           first = f .1;
         }
 
--- Every accepted change of a valid state, whatever its words are.
-pub who-is-taken : (R : Rules) → ((j : ℕ) → 1 ≤ R .thr j) → (s : State) → Valid R s → (c : Change) → number (s .n) (edge s) c ≡ 0
+-- Every change of a valid state that none of 7 to 11 fits, so every accepted one, whatever its words are.
+pub who-is-taken : (R : Rules) → ((j : ℕ) → 1 ≤ R .thr j) → (s : State) → Valid R s → (c : Change) → early (s .n) (edge s) c ≡ 0
     → (r t : Run) → Settles R s c r → Through R (c .words) r t → Served (s .n) (marks (t .state)) (t .queues) (pick (suc (R .top)) (t .queues))
 who-is-taken R pos s H c z r t S way =
     let W : OnTheWay R s t = on-the-way R pos s H c z r t S way in

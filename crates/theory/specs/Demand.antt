@@ -16,12 +16,21 @@ use Rattle.model.specs.Sound.{sound}
 use Rattle.model.specs.Moves.{Ends}
 use Rattle.model.specs.Change.{Change, accepted, refused}
 use Rattle.model.specs.Calls.{sized, ChangedBytes, changeBytes}
-use Rattle.model.specs.Ledger.{Ledger, ledgerNumber, entered, enteredAll}
+use Rattle.model.specs.Ledger.{Ledger, Told, tell, ledgerNumber, entered, enteredAll}
 
 -- the rack after a list of calls, each on the rack that the one before it left
 unfoldable pub lastRack : Shape → List ℕ → List Change → List ℕ
 lastRack S bs [] = bs
 lastRack S bs (c ∷ cs) = lastRack S (changeBytes base S bs c .rack) cs
+
+-- what the ledger is told of a change of the rack bs, and of a list of changes: whether each, "as defined, on the rack before it, runs out of
+-- words"
+abbrev pub toldOf : Shape → List ℕ → Change → Told
+toldOf S bs c = tell base (read S bs) c
+
+unfoldable pub toldAll : Shape → List ℕ → List Change → List Told
+toldAll S bs [] = []
+toldAll S bs (c ∷ cs) = toldOf S bs c ∷ toldAll S (changeBytes base S bs c .rack) cs
 
 -- "The pairs are the book's links whose ends name each other as mates": whether v-w is one, v the lower end
 abbrev pub isPair : Shape → Ledger → List ℕ → ℕ → ℕ → Bool
@@ -64,24 +73,26 @@ pub record Mates (S : Shape) (l : Ledger) (bs : List ℕ) (v w : ℕ) : Type 0 w
 -- What one call of the list does, from the rack bs, where the ledger is l: d is what it answers and leaves.
 pub record Call (S : Shape) (l : Ledger) (bs : List ℕ) (c : Change) (d : ChangedBytes) : Type 0 where
   -- its number is the ledger's
-  pub number : d .answer .number ≡ ledgerNumber l c
+  pub number : d .answer .number ≡ ledgerNumber l (toldOf S bs c)
   -- refused, it answers the number and zeros, and the rack keeps every byte
-  pub refused-keeps : ledgerNumber l c ≢ 0 → (d .answer ≡ refused (ledgerNumber l c)) × (d .rack ≡ bs)
-  -- accepted, it leaves the rack of the moves, and reports the pairs of the ledger's links then
-  pub accepted-moves : ledgerNumber l c ≡ 0 → d .rack ≡ write (accepted base (read S bs) c .state)
-  pub accepted-pairs : ledgerNumber l c ≡ 0 → d .answer .pairs ≡ pairsOf S (entered l c) (d .rack)
+  pub refused-keeps : ledgerNumber l (toldOf S bs c) ≢ 0 → (d .answer ≡ refused (ledgerNumber l (toldOf S bs c))) × (d .rack ≡ bs)
+  -- accepted, it leaves the rack of the moves, and reports the words that they use and the pairs of the ledger's links then
+  pub accepted-moves : ledgerNumber l (toldOf S bs c) ≡ 0 → d .rack ≡ write (accepted base (read S bs) c .state)
+  pub accepted-draws : ledgerNumber l (toldOf S bs c) ≡ 0 → d .answer .draws ≡ accepted base (read S bs) c .answer .draws
+  pub accepted-pairs : ledgerNumber l (toldOf S bs c) ≡ 0 → d .answer .pairs ≡ pairsOf S (entered l (toldOf S bs c)) (d .rack)
   -- no vertex is in two of its new pairs, or twice in one
   pub once : Distinct (vertices (d .news))
-  -- its draws are as many as its new pairs, and at most n div 2
-  pub draws-new : d .answer .draws ≡ length (d .news)
-  pub draws-half : d .answer .draws ≤ l .n / 2
+  -- its new pairs are at most n div 2; it uses a word at least for each, and none that is not lent
+  pub news-half : length (d .news) ≤ l .n / 2
+  pub news-drawn : length (d .news) ≤ d .answer .draws
+  pub draws-lent : d .answer .draws ≤ length (c .words)
   -- its falls are at most four a vertex
   pub falls-few : d .answer .falls ≤ l .n * 4
 
 -- the calls of a list, one after the other
 unfoldable pub Calls : Shape → Ledger → List ℕ → List Change → Type 0
 Calls S l bs [] = Unit
-Calls S l bs (c ∷ cs) = Call S l bs c (changeBytes base S bs c) × Calls S (entered l c) (changeBytes base S bs c .rack) cs
+Calls S l bs (c ∷ cs) = Call S l bs c (changeBytes base S bs c) × Calls S (entered l (toldOf S bs c)) (changeBytes base S bs c .rack) cs
 
 -- What holds of the last rack bs, with the links of the ledger l.
 pub record Facts (S : Shape) (l : Ledger) (bs : List ℕ) : Type 0 where
@@ -116,4 +127,4 @@ pub record Facts (S : Shape) (l : Ledger) (bs : List ℕ) : Type 0 where
 -- Demand 3: "one statement about a whole list of changes, the empty list too".
 pub record Demand (S : Shape) (l : Ledger) (bs : List ℕ) (cs : List Change) : Type 0 where
   pub calls : Calls S l bs cs
-  pub last : Facts S (enteredAll l cs) (lastRack S bs cs)
+  pub last : Facts S (enteredAll l (toldAll S bs cs)) (lastRack S bs cs)

@@ -13,7 +13,8 @@ use Rattle.model.specs.Shape.{low}
 use Rattle.model.specs.State.{Rules, State, lowKind, edges, pairs, empty}
 use Rattle.model.specs.Text.{bytes, largest}
 use Rattle.model.specs.Change.{Change, change}
-use Rattle.model.specs.Trace.{Trace, traceText, rackLine, changeLine}
+use Rattle.model.specs.Lists.{All}
+use Rattle.model.specs.Trace.{LineChange, Trace, traceText, rackLine, changeLine}
 use Rattle.model.specs.Record.{answerLine, pairLine, Mean, mean, endText, endLine, pairLines, changesText, recordText}
 use Rattle.model.specs.Run.{longest, spaceLength}
 use Rattle.model.proofs.Counting.{count-bound}
@@ -80,32 +81,32 @@ ending-most s h = omega (arith, length-append (pairLines s) (endLine s), pairs-m
 
 -- The whole.
 
--- a property of states that changes keep, and that keeps the figures within 32 bits
+-- a property of states that changes keep, and that keeps the figures of a trace's changes within 32 bits
 pub record Bounded (R : Rules) (Good : State → Type 0) : Type 0 where
   pub keeps : (s : State) (c : Change) → Good s → Good (change R s c .state)
-  pub figures : (s : State) (c : Change) → Good s → Figures (change R s c .answer)
+  pub figures : (s : State) (c : Change) → Good s → LineChange c → Figures (change R s c .answer)
   pub small : (s : State) → Good s → Small s
 
 module _ (R : Rules) (Good : State → Type 0) (bounded : Bounded R Good) where
-  pub changes-most : (s : State) (cs : List Change) → Good s → length (changesText R s cs) ≤ answerRoom * length cs + endingRoom
+  pub changes-most : (s : State) (cs : List Change) → Good s → All LineChange cs → length (changesText R s cs) ≤ answerRoom * length cs + endingRoom
   unfolding changesText
-  changes-most s [] g = omega (arith, ending-most s (bounded .small s g))
-  changes-most s (c ∷ cs) g =
+  changes-most s [] g lines = omega (arith, ending-most s (bounded .small s g))
+  changes-most s (c ∷ cs) g lines =
       let d = change R s c in
       omega (
         arith,
         length-append (answerLine (d .answer)) (changesText R (d .state) cs),
-        answer-most (d .answer) (bounded .figures s c g),
-        changes-most (d .state) cs (bounded .keeps s c g),
+        answer-most (d .answer) (bounded .figures s c g (lines .0)),
+        changes-most (d .state) cs (bounded .keeps s c g) (lines .1),
         mul-suc answerRoom (length cs),
       )
 
-  pub record-fits : (t : Trace) → Good (empty lowKind (t .n)) → length (traceText t) ≤ longest → length (recordText R t) ≤ spaceLength
+  pub record-fits : (t : Trace) → Good (empty lowKind (t .n)) → All LineChange (t .changes) → length (traceText t) ≤ longest → length (recordText R t) ≤ spaceLength
   unfolding recordText
-  record-fits t g short =
+  record-fits t g lines short =
       omega (
         arith,
         space-enough t short,
         length-append (rackLine (t .n)) (changesText R (empty lowKind (t .n)) (t .changes)),
-        changes-most (empty lowKind (t .n)) (t .changes) g,
+        changes-most (empty lowKind (t .n)) (t .changes) g lines,
       )

@@ -2,7 +2,7 @@
 use mathlib.Core.Path.{_≡_, refl, ap, _∙_}
 use mathlib.Core.Logic.{inl, inr}
 use mathlib.Core.Bool.{Bool, true, false, _&&_, _||_, not}
-use Prim.Native.Nat.{ℕ, zero, suc, _/_, _^_, _≤_}
+use Prim.Native.Nat.{ℕ, zero, suc, _^_, _≤_}
 use native.Mathlib.Nat.{pow-suc}
 use native.Mathlib.Omega.{arith}
 use lib.Dec.{eqb, ltb}
@@ -10,14 +10,16 @@ use lib.ListN.{length}
 use Rattle.model.specs.Shape.{Shape, low}
 use Rattle.model.specs.State.{Kind, State, lowKind, base, edge, pairs, empty}
 use Rattle.model.specs.Valid.{Valid}
-use Rattle.model.specs.Trace.{Trace, traceText}
-use Rattle.model.specs.Change.{Change, Answer, number, change, refused}
+use Rattle.model.specs.Lists.{All}
+use Rattle.model.specs.Trace.{LineChange, Trace, traceText}
+use Rattle.model.specs.Change.{Change, Answer, early, number, runsOut, change, refused}
 use Rattle.model.specs.Record.{recordText}
 use Rattle.model.specs.Run.{longest, spaceLength}
 use Rattle.model.proofs.Tests.{eq?}
 use Rattle.model.proofs.Counting.{count-bound}
 use Rattle.model.proofs.Limits.{mate-inside}
 use Rattle.theory.proofs.ChangeStep as steps
+use Rattle.theory.proofs.Numbers.{number-early, number-told}
 use Rattle.theory.proofs.Matching.{empty-valid}
 use Rattle.text.proofs.Answers.{Figures}
 use Rattle.trace.proofs.Bound.{Bounded, Small, record-fits}
@@ -31,15 +33,21 @@ pick : (b : Bool) (x y : ℕ) → x ≤ 12 → y ≤ 12 → elim b as (λ z. ℕ
 pick true x y h k = h
 pick false x y h k = k
 
-number-few : (n : ℕ) (there : ℕ → ℕ → Bool) (c : Change) → number n there c ≤ 12
-unfolding number
-number-few n there c =
+early-few : (n : ℕ) (there : ℕ → ℕ → Bool) (c : Change) → early n there c ≤ 12
+unfolding early
+early-few n there c =
     pick (eqb (c .code) 1 || eqb (c .code) 2) _ 7
     (pick (ltb (c .a) n && ltb (c .b) n) _ 8
     (pick (eqb (c .a) (c .b)) 9 _ (omega arith)
     (pick (eqb (c .code) 1 && there (c .a) (c .b)) 10 _ (omega arith)
-    (pick (eqb (c .code) 2 && not (there (c .a) (c .b))) 11 _ (omega arith)
-    (pick (ltb (length (c .words)) (n / 2)) 12 0 (omega arith) (omega arith))))) (omega arith)) (omega arith)
+    (pick (eqb (c .code) 2 && not (there (c .a) (c .b))) 11 0 (omega arith) (omega arith)))) (omega arith)) (omega arith)
+
+number-few : (n : ℕ) (there : ℕ → ℕ → Bool) (out : Bool) (c : Change) → number n there out c ≤ 12
+number-few n there out c = go (early n there c) refl
+  where
+    go : (k : ℕ) → early n there c ≡ k → number n there out c ≤ 12
+    go zero e = rw (number-told n there out c e) (pick out 12 0 (omega arith) (omega arith))
+    go (suc k) e = omega (arith, number-early n there out c k e, early-few n there c)
 
 -- a valid state of document 01's rack
 pub record LowValid (s : State) : Type 0 where
@@ -70,15 +78,19 @@ low-keeps s c ok =
     let w = step s c (ok .valid) in
     record { shape = ap (λ (K : Kind). K .shape) (w .kind) ∙ ok .shape; valid = w .valid }
 
-pub valid-figures : (s : State) (c : Change) → LowValid s → Figures (change base s c .answer)
+-- a change of a trace uses no word that is not lent, and so at most 128
+pub draws-few : (s : State) (c : Change) → LowValid s → length (c .words) ≤ 128 → change base s c .answer .draws ≤ 128
+draws-few s c ok few = omega (arith, step s c (ok .valid) .draws-lent)
+
+pub valid-figures : (s : State) (c : Change) → LowValid s → LineChange c → Figures (change base s c .answer)
 unfolding base refused pairs
-valid-figures s c ok =
+valid-figures s c ok line =
     let d = change base s c in
     let w = step s c (ok .valid) in
     let few : s .n ≤ low .most = low-few s ok in
     record {
-      number-fits = omega (arith, w .number, number-few (s .n) (edge s) c);
-      draws-fit = omega (arith, w .draws-half, few);
+      number-fits = omega (arith, w .number, number-few (s .n) (edge s) (runsOut base s c) c);
+      draws-fit = omega (arith, draws-few s c ok (line .few));
       falls-fit = omega (arith, w .falls-few, few);
       pairs-fit = elim (eq? (d .answer .number) 0) [
         | inl e ↦ omega (arith, w .pairs-held e, count-bound (λ v. ltb v (d .state .mate v)) (d .state .n), w .size, few)
@@ -89,7 +101,7 @@ valid-figures s c ok =
 pub bounded : Bounded base LowValid
 bounded = record { keeps = low-keeps; figures = valid-figures; small = valid-small }
 
-pub record-fits-base : (t : Trace) → 1 ≤ t .n → t .n ≤ low .most → length (traceText t) ≤ longest → length (recordText base t) ≤ spaceLength
-record-fits-base t p q short =
+pub record-fits-base : (t : Trace) → 1 ≤ t .n → t .n ≤ low .most → All LineChange (t .changes) → length (traceText t) ≤ longest → length (recordText base t) ≤ spaceLength
+record-fits-base t p q lines short =
     record-fits base LowValid bounded t
-    (unfold base empty in record { shape = refl; valid = empty-valid base lowKind (λ j. pow-pos j) (t .n) p q }) short
+    (unfold base empty in record { shape = refl; valid = empty-valid base lowKind (λ j. pow-pos j) (t .n) p q }) lines short

@@ -24,7 +24,7 @@ impl Asked {
             code,
             a,
             b,
-            words: words(random, rack.n),
+            words: random.words_for(rack.n),
         }
     }
 }
@@ -85,16 +85,4 @@ fn either(random: &mut Random, code: u32, a: usize, b: usize) -> (u32, u32, u32)
     } else {
         (code, b, a)
     }
-}
-
-/// Enough words, at times more, at times fewer than n div 2.
-fn words(random: &mut Random, n: usize) -> Vec<u32> {
-    let enough = n / 2;
-    let length = match random.below(100) {
-        0 => random.below(enough + 1),
-        1 => enough.max(1) - 1,
-        2..=20 => enough + random.below(4),
-        _ => enough,
-    };
-    random.words(length)
 }

@@ -6,7 +6,7 @@ use crate::Verdict;
 use pairing::{Audit, Level, Linked, Mate, Roster};
 use reference::calls::change_rack;
 use reference::checks::random::Random;
-use reference::{Answer, Rack};
+use reference::{change_with_pairs, Answer, Rack};
 use std::fmt::{self, Debug, Display, Formatter};
 use std::sync::atomic::{AtomicU64, Ordering};
 
@@ -165,12 +165,27 @@ pub fn rosters_are<const N: usize>(
     Ok(())
 }
 
+/// A change that is the same on both sides: its answer, and how many new pairs it
+/// has by the independent program.
+#[derive(Clone, Copy)]
+pub struct Made {
+    pub answer: Answer,
+    pub new_pairs: usize,
+}
+
+/// What stands after the words lent, where a change mustn't look: every draw would
+/// take it.
+const TEMPTING: [u32; 2] = [0, 1];
+
 /// One change of the core, on a copy of a buffer, and the bytes after it.
 fn core_change(buffer: &[u8], asked: &Asked) -> Result<(Answer, Vec<u8>), String> {
-    let lent = asked.words.clone();
-    let call = |rack: &mut [u8]| pairing::change(rack, asked.code, asked.a, asked.b, &lent);
+    let Asked { code, a, b, words } = asked;
+    let stand = [&words[..], &TEMPTING].concat();
+    let lent = &stand[..words.len()];
+    let call = |rack: &mut [u8]| pairing::change(rack, *code, *a, *b, lent);
     let (answer, bytes) = guarded(buffer, call)?;
-    same("the words lent", &lent, &asked.words)?;
+    let stay = stand.starts_with(words) && stand.ends_with(&TEMPTING);
+    same("the words lent stay", stay, true)?;
     let answer = Answer {
         number: answer.number.0,
         draws: answer.draws,
@@ -181,27 +196,36 @@ fn core_change(buffer: &[u8], asked: &Asked) -> Result<(Answer, Vec<u8>), String
 }
 
 /// One change on a buffer of any bytes and any length.
-pub fn change(buffer: &[u8], asked: &Asked) -> Result<Answer, String> {
+pub fn change(buffer: &[u8], asked: &Asked) -> Result<Made, String> {
     let (core, bytes) = core_change(buffer, asked)?;
     let mut wanted = buffer.to_vec();
-    let answer = reference::change(&mut wanted, asked.code, asked.a, asked.b, &asked.words);
+    let Asked { code, a, b, words } = asked;
+    let (answer, new_pairs) = change_with_pairs(&mut wanted, *code, *a, *b, words);
     same(asked, core, answer)?;
     same_bytes(asked, &bytes, &wanted)?;
-    Ok(answer)
+    Ok(Made {
+        answer,
+        new_pairs: new_pairs.len(),
+    })
 }
+
+/// The most words that a message shows.
+const SHOWN: usize = 300;
 
 impl Display for Asked {
     fn fmt(&self, f: &mut Formatter) -> fmt::Result {
         let Asked { code, a, b, words } = self;
+        let (number, first) = (words.len(), &words[..words.len().min(SHOWN)]);
         write!(
             f,
-            "change with code {code}, boards {a} {b}, words {words:?}"
+            "change with code {code}, boards {a} {b}, {number} words from {first:?} on"
         )
     }
 }
 
 /// A rack that both go on changing: the core its bytes, the independent
 /// program what they tell of, so that it needn't read them again each time.
+#[derive(Clone)]
 pub struct Twin {
     pub bytes: Vec<u8>,
     pub rack: Rack,
@@ -213,15 +237,18 @@ impl Twin {
         Twin { bytes, rack }
     }
 
-    pub fn change(&mut self, asked: &Asked) -> Result<Answer, String> {
+    pub fn change(&mut self, asked: &Asked) -> Result<Made, String> {
         let Asked { code, a, b, words } = asked;
-        let (answer, _) = change_rack(&mut self.rack, *code, *a, *b, words);
+        let (answer, new_pairs) = change_rack(&mut self.rack, *code, *a, *b, words);
         let (core, bytes) = core_change(&self.bytes, asked)?;
         same(asked, core, answer)?;
         if answer.number == 0 {
             self.bytes = self.rack.to_bytes();
         }
         same_bytes(asked, &bytes, &self.bytes)?;
-        Ok(answer)
+        Ok(Made {
+            answer,
+            new_pairs: new_pairs.len(),
+        })
     }
 }

@@ -1,4 +1,5 @@
-//! The bench cases P1 to P11 of document 01, with the figures that it states.
+//! The bench cases P1 to P11 of document 01, with the figures that it states; P9 as
+//! document 02 changes it.
 
 use crate::asked::Asked;
 use crate::both::{self, same, Twin};
@@ -102,7 +103,10 @@ const CASES: [Case; 10] = [
     Case {
         name: "P9",
         n: 5,
-        steps: &[([1, 0, 1], &[0], [12, 0, 0, 0]), LINK_01],
+        steps: &[
+            ([1, 0, 1], &[], [12, 0, 0, 0]),
+            ([1, 0, 1], &[0], [0, 1, 0, 1]),
+        ],
         pairs: &[(0, 1, 0)],
     },
     Case {
@@ -126,11 +130,11 @@ impl Case {
             };
             let stated = Answer {
                 number: *number,
-                draws: *draws,
+                draws: u64::from(*draws),
                 falls: *falls,
                 pairs: *pairs,
             };
-            let answer = twin.change(&asked)?;
+            let answer = twin.change(&asked)?.answer;
             same("the figures stated", answer, stated)?;
         }
         Ok(twin)
@@ -187,7 +191,7 @@ pub fn changes() -> Verdict {
         b: 1,
         words: vec![0, 0],
     };
-    let answer = both::change(&doubly_owned()?, &asked)?;
+    let answer = both::change(&doubly_owned()?, &asked)?.answer;
     same("P11, change", answer, Answer::refused(6))
 }
 

@@ -1,16 +1,17 @@
 //! The changes.
 
 use crate::asked::Asked;
-use crate::both::{self, same, Twin};
+use crate::both::{self, same, Made, Twin};
 use crate::cases;
 use crate::change_tally::{fitting, Tally};
 use crate::damage::{damaged, Damage, DAMAGES};
 use crate::fans::{fan, FANS};
 use crate::rack_part::wrong_buffers;
 use crate::racks::{self, Kind};
-use crate::Verdict;
+use crate::{stars, Verdict};
 use reference::checks::random::Random;
-use reference::{Answer, Rack};
+use reference::checks::shortage::runs_out;
+use reference::Rack;
 
 /// Lists of changes from an empty rack: vertices, lists, changes of each. Few
 /// are large, since the independent program takes milliseconds for those.
@@ -39,7 +40,7 @@ struct Start {
     first_seed: u64,
 }
 
-const STARTS: [Start; 6] = [
+const STARTS: [Start; 7] = [
     Start {
         name: "random racks",
         kind: Kind::Random,
@@ -63,6 +64,14 @@ const STARTS: [Start; 6] = [
         changes: 40,
         sizes: Some((5, 12)),
         first_seed: 0x1900_0000,
+    },
+    Start {
+        name: "forks of 8 to 40 boards",
+        kind: Kind::Forks,
+        racks: 4_000,
+        changes: 5,
+        sizes: Some((8, 40)),
+        first_seed: 0x1b00_0000,
     },
     Start {
         name: "random racks of 17 to 64 boards",
@@ -90,6 +99,10 @@ const STARTS: [Start; 6] = [
     },
 ];
 
+/// Of a hundred changes that use words, those made again with lists that end near
+/// the last word needed.
+const MADE_AGAIN: usize = 15;
+
 /// Damaged racks of each kind of damage, and the seed of the first.
 const DAMAGED: (u64, u64) = (2_000, 0x1600_0000);
 
@@ -106,6 +119,7 @@ pub fn all() -> Verdict {
         whole.add(&format!("from {}", start.name), &part);
     }
     whole.add("from fans", &from_fans()?);
+    stars::all()?;
     for (name, damage) in DAMAGES {
         let part = on_damaged(name, damage)?;
         let told = |why| format!("damage to {name}: {why}");
@@ -119,20 +133,22 @@ pub fn all() -> Verdict {
 }
 
 /// One change of a rack.
-fn step(twin: &mut Twin, asked: &Asked, tally: &mut Tally) -> Result<Answer, String> {
+fn step(twin: &mut Twin, asked: &Asked, tally: &mut Tally) -> Result<Made, String> {
     let before = twin.rack.clone();
     let fit = fitting(&before, asked);
-    let answer = twin.change(asked)?;
-    same(
-        "the first number that fits",
-        answer.number,
-        fit.first().copied().unwrap_or(0),
-    )?;
-    tally.note_on(&before, asked, &fit, &answer, &twin.rack);
-    if answer.number == 0 {
+    let made = twin.change(asked)?;
+    let change = (asked.code, asked.a, asked.b);
+    let number = match fit.first() {
+        Some(number) => *number,
+        None if runs_out(&before, change, &asked.words).is_some() => 12,
+        None => 0,
+    };
+    same("the first number that fits", made.answer.number, number)?;
+    tally.note_on(&before, asked, &fit, &made, &twin.rack);
+    if number == 0 {
         tally.rosters.ask_on(&twin.bytes, &twin.rack)?;
     }
-    Ok(answer)
+    Ok(made)
 }
 
 /// Random changes on one rack, one after the other.
@@ -145,8 +161,14 @@ fn walk(
 ) -> Verdict {
     tally.rosters.ask_on(&twin.bytes, &twin.rack)?;
     for place in 0..changes {
+        let told = |why| format!("change {place}: {why}");
         let asked = Asked::any(random, &twin.rack, adds);
-        step(twin, &asked, tally).map_err(|why| format!("change {place}: {why}"))?;
+        let before = twin.clone();
+        let made = step(twin, &asked, tally).map_err(told)?;
+        if made.answer.draws > 0 && random.percent(MADE_AGAIN) {
+            let lists = &mut tally.words.lists;
+            lists.end(&before, &asked, &made, twin).map_err(told)?;
+        }
     }
     Ok(())
 }
@@ -194,13 +216,13 @@ fn from_fans() -> Result<Tally, String> {
             let (rack, opening) = fan(&mut random, level, ribs);
             let mut twin = Twin::start(rack);
             let opened = step(&mut twin, &opening, &mut tally).map_err(told)?;
-            same("number of the opening", opened.number, 0).map_err(told)?;
+            same("number of the opening", opened.answer.number, 0).map_err(told)?;
             walk(&mut random, &mut twin, 5, 40, &mut tally).map_err(told)?;
         }
     }
     // Those of the largest fan, all of whose ribs rise.
-    let most = (tally.most_draws, tally.most_falls);
-    same("most draws and falls of a fan", most, (48, 296))?;
+    let most = (tally.most_new_pairs, tally.most_falls);
+    same("most new pairs and falls of a fan", most, (48, 296))?;
     Ok(tally)
 }
 
@@ -229,7 +251,7 @@ fn all_sorts() -> Result<Tally, String> {
     let sound = racks::rack(&mut random, 6, Kind::Random).to_bytes();
     let mut damaged = sound.clone();
     damaged[7] ^= 1;
-    let mut buffers = vec![sound, damaged];
+    let mut buffers = vec![sound, Rack::empty(6).to_bytes(), damaged];
     buffers.extend(wrong_buffers());
     let mut tally = Tally::new();
     for buffer in &buffers {
@@ -237,8 +259,8 @@ fn all_sorts() -> Result<Tally, String> {
         for code in [0, 1, 2, 3, 256, 257, u32::MAX] {
             for a in ENDS {
                 for b in ENDS {
-                    let words = random.pick(&[0, 2, 3, 4]);
-                    let words = random.words(words);
+                    let mut words = random.words_for(6);
+                    words.truncate(random.pick(&[0, 9]));
                     let asked = Asked { code, a, b, words };
                     tally.note(&both::change(buffer, &asked)?);
                 }

@@ -2,18 +2,21 @@
 //! and how many of them the order decides.
 
 use crate::asked::Asked;
+use crate::both::Made;
 use crate::rosters::Rosters;
 use crate::tally::Seen;
+use crate::word_tally::Words;
 use crate::Verdict;
 use reference::checks::rival::order_decides;
-use reference::{Answer, Rack};
+use reference::Rack;
 
 /// What was tried.
 pub struct Tally {
     pub numbers: Seen<u32>,
     /// Changes of a sound rack that two numbers fit, the lower first. 10 and 11
     /// ask for other codes, neither has a code that 7 fits, and a link that is
-    /// there has two boards.
+    /// there has two boards. 12 fits no change that another number fits, since
+    /// such a change makes no moves.
     at_once: Seen<(u32, u32)>,
     /// The accepted changes: their codes, and the highest level then reached.
     codes: Seen<u32>,
@@ -22,8 +25,10 @@ pub struct Tally {
     /// first, so that it shows if the core takes waiting boards in that order.
     pub decided: Seen<bool>,
     draws: u64,
-    pub most_draws: u32,
+    pub most_new_pairs: usize,
     pub most_falls: u32,
+    /// What those of sound racks did with their words.
+    pub words: Words,
     /// Vertices that an accepted change put into another roster, by their levels
     /// before and after it.
     moved: Seen<(i32, i32)>,
@@ -34,10 +39,7 @@ pub struct Tally {
 
 impl Tally {
     pub fn new() -> Tally {
-        let of_seven = [(7, 8), (7, 9), (7, 12)];
-        let of_eight = [(8, 9), (8, 11), (8, 12)];
-        let others = [(9, 11), (9, 12), (10, 12), (11, 12)];
-        let at_once = of_seven.into_iter().chain(of_eight).chain(others);
+        let at_once = [(7, 8), (7, 9), (8, 9), (8, 11), (9, 11)];
         Tally {
             numbers: Seen::of("number", [0, 1, 6, 7, 8, 9, 10, 11, 12]),
             at_once: Seen::of("at once", at_once),
@@ -45,31 +47,34 @@ impl Tally {
             tops: Seen::of("highest level", -1..=3),
             decided: Seen::of("decided by the order", [true, false]),
             draws: 0,
-            most_draws: 0,
+            most_new_pairs: 0,
             most_falls: 0,
+            words: Words::new(),
             moved: Seen::of("levels", (-1..=3).flat_map(to_others)),
             rosters: Rosters::of(&[0, 1, 6], 16),
         }
     }
 
-    pub fn note(&mut self, answer: &Answer) {
-        self.numbers.note(answer.number);
-        self.draws += u64::from(answer.draws);
-        self.most_draws = self.most_draws.max(answer.draws);
-        self.most_falls = self.most_falls.max(answer.falls);
+    pub fn note(&mut self, made: &Made) {
+        self.numbers.note(made.answer.number);
+        self.draws += made.answer.draws;
+        self.most_new_pairs = self.most_new_pairs.max(made.new_pairs);
+        self.most_falls = self.most_falls.max(made.answer.falls);
     }
 
-    /// A change of a sound rack, with the numbers that fit it and the rack after
-    /// it.
+    /// A change of a sound rack, with the numbers from 7 to 11 that fit it and the
+    /// rack after it.
     pub fn note_on(
         &mut self,
         before: &Rack,
         asked: &Asked,
         fit: &[u32],
-        answer: &Answer,
+        made: &Made,
         after: &Rack,
     ) {
-        self.note(answer);
+        self.note(made);
+        self.words.note(before, asked, made);
+        let answer = &made.answer;
         for (place, &lower) in fit.iter().enumerate() {
             for &higher in &fit[place + 1..] {
                 self.at_once.note((lower, higher));
@@ -98,21 +103,23 @@ impl Tally {
         self.tops.add(&part.tops);
         self.decided.add(&part.decided);
         self.draws += part.draws;
-        self.most_draws = self.most_draws.max(part.most_draws);
+        self.most_new_pairs = self.most_new_pairs.max(part.most_new_pairs);
         self.most_falls = self.most_falls.max(part.most_falls);
+        self.words.add(&part.words);
         self.moved.add(&part.moved);
         self.rosters.add(&part.rosters);
     }
 
     fn print(&self, what: &str) {
         println!(
-            "{} changes {what}, by {}; {} draws, most draws {} and falls {}{}: equal",
+            "{} changes {what}, by {}; {} draws, most new pairs {} and falls {}{}{}: equal",
             self.numbers.sum(),
             self.numbers,
             self.draws,
-            self.most_draws,
+            self.most_new_pairs,
             self.most_falls,
-            self.by_order()
+            self.by_order(),
+            self.words.passing_told()
         );
     }
 
@@ -132,6 +139,7 @@ impl Tally {
         self.print("in all");
         println!("two numbers {}", self.at_once);
         println!("accepted by {}; {}", self.codes, self.tops);
+        self.words.print();
         println!(
             "{} of {} accepted changes come out otherwise with the lowest number first",
             self.decided.times(true),
@@ -148,6 +156,7 @@ impl Tally {
         self.decided.all_came()?;
         self.tops.all_came()?;
         self.moved.all_came()?;
+        self.words.all_came()?;
         self.rosters.all_came()
     }
 }
@@ -158,10 +167,10 @@ fn to_others(from: i32) -> impl Iterator<Item = (i32, i32)> {
     levels.map(move |to| (from, to))
 }
 
-/// The numbers from 7 on that fit a change of a sound rack, each looked at by
+/// The numbers from 7 to 11 that fit a change of a sound rack, each looked at by
 /// itself.
 pub fn fitting(rack: &Rack, asked: &Asked) -> Vec<u32> {
-    let Asked { code, a, b, words } = asked;
+    let Asked { code, a, b, .. } = asked;
     let (a, b) = (*a as usize, *b as usize);
     let outside = a >= rack.n || b >= rack.n;
     let there = !outside && rack.linked(a, b);
@@ -171,7 +180,6 @@ pub fn fitting(rack: &Rack, asked: &Asked) -> Vec<u32> {
         a == b,
         *code == 1 && there,
         *code == 2 && !there,
-        words.len() < rack.n / 2,
     ];
     let numbers = (7..).zip(fit);
     numbers.filter(|(_, fits)| *fits).map(|(k, _)| k).collect()

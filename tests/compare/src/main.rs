@@ -15,6 +15,7 @@ mod change_part;
 mod change_tally;
 mod damage;
 mod fans;
+mod lists;
 mod program_part;
 mod rack_part;
 mod rack_tally;
@@ -24,8 +25,10 @@ mod rosters;
 mod run_part;
 mod run_tally;
 mod runs;
+mod stars;
 mod tally;
 mod texts;
+mod word_tally;
 
 use std::env;
 use std::process::ExitCode;

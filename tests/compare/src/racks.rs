@@ -1,5 +1,5 @@
-//! Racks to try calls on: of all sizes, reached by changes, sound at random,
-//! and as dense as can be.
+//! Racks to try calls on: of all sizes, reached by changes, sound at random, as
+//! dense as can be, and forks, whose pairs have others to draw from.
 
 use crate::asked::Asked;
 use reference::calls::change_rack;
@@ -13,6 +13,7 @@ pub enum Kind {
     Reached,
     Random,
     Dense,
+    Forks,
 }
 
 /// A number of vertices: mostly few, since the plain program is slow, but any
@@ -32,6 +33,7 @@ pub fn rack(random: &mut Random, n: usize, kind: Kind) -> Rack {
         Kind::Reached => reached(random, n),
         Kind::Random => sound_rack(random, n),
         Kind::Dense => dense(random, n),
+        Kind::Forks => forks(random, n),
     }
 }
 
@@ -44,6 +46,37 @@ fn reached(random: &mut Random, n: usize) -> Rack {
         change_rack(&mut rack, asked.code, asked.a, asked.b, &asked.words);
     }
     rack
+}
+
+/// A rack of pairs at levels 1 to 3, each end of which has up to fifteen neighbours
+/// of its own at level -1, or up to three if it is at level 1. An end that loses its
+/// mate draws from those, so that their number is often no power of two.
+fn forks(random: &mut Random, n: usize) -> Rack {
+    let mut free: Vec<usize> = (0..n).collect();
+    random.shuffle(&mut free);
+    let (mut pairs, mut edges) = (Vec::new(), Vec::new());
+    while free.len() > 1 {
+        let (one, other) = (free.pop().expect("two"), free.pop().expect("one"));
+        let level = random.between(1, 3);
+        pairs.push((one, other, level as i32));
+        edges.push((one, other));
+        edges.extend(tines(random, &mut free, one, level));
+        edges.extend(tines(random, &mut free, other, level));
+    }
+    drawn(n, &pairs, &edges)
+}
+
+/// The edges of an end of a pair to neighbours of its own.
+fn tines(
+    random: &mut Random,
+    free: &mut Vec<usize>,
+    end: usize,
+    level: usize,
+) -> Vec<(usize, usize)> {
+    let most = if level == 1 { 3 } else { 15 };
+    let number = random.between(1, most).min(free.len());
+    let own = free.split_off(free.len() - number);
+    own.into_iter().map(|v| (end, v)).collect()
 }
 
 /// A rack in which nearly all vertices are mated at level 3 and nearly all

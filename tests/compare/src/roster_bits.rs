@@ -91,7 +91,7 @@ struct Said {
     mate: (u32, u32),
     linked: (u32, u32),
     rosters: [(u32, u32); LEVELS.len()],
-    change: [u32; 4],
+    change: (u32, u64, u32, u32),
 }
 
 /// What they say of a rack that isn't sound, and how many they are.
@@ -101,7 +101,7 @@ const UNSOUND: Said = Said {
     mate: (6, 0),
     linked: (6, 0),
     rosters: [(6, 0); LEVELS.len()],
-    change: [6, 0, 0, 0],
+    change: (6, 0, 0, 0),
 };
 const CALLS: u64 = 5 + LEVELS.len() as u64;
 
@@ -177,7 +177,7 @@ impl Subject {
             mate: (mate.number.0, mate.mate),
             linked: (linked.number.0, linked.linked),
             rosters: rosters.map(|roster| (roster.number.0, roster.count)),
-            change: [change.number.0, change.draws, change.falls, change.pairs],
+            change: (change.number.0, change.draws, change.falls, change.pairs),
         }
     }
 }

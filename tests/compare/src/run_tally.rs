@@ -7,7 +7,8 @@ use crate::tally::Seen;
 use crate::texts::Case;
 use crate::Verdict;
 use reference::checks::texts::first_bad_line;
-use reference::{grammar, RACK_BYTES, RECORD_SPACE, TEXT_LIMIT};
+use reference::grammar::{self, Step};
+use reference::{RACK_BYTES, RECORD_SPACE, TEXT_LIMIT};
 use std::str::from_utf8;
 
 pub struct Tally {
@@ -30,6 +31,13 @@ pub struct Tally {
     /// Lines of texts by the number of their words, and words by their digits.
     words: Seen<usize>,
     digits: Seen<u32>,
+    /// Accepted changes by their draws, and lines without words by their number.
+    draws: Seen<u32>,
+    without: Seen<u32>,
+    /// Accepted changes with more draws than n div 2, which have passed words over,
+    /// and those that drew with fewer words than that.
+    passing: u64,
+    few: u64,
     /// The most draws, falls and pairs of a change.
     most: [u32; 3],
     longest: usize,
@@ -53,6 +61,10 @@ impl Default for Tally {
             crowded: 0,
             words: Seen::of("lines by their words", 0..=128),
             digits: Seen::of("words by their digits", 1..=10),
+            draws: Seen::of("draws", 0..=128),
+            without: Seen::of("number", [0, 8, 9, 10, 11, 12]),
+            passing: 0,
+            few: 0,
             most: [0; 3],
             longest: 0,
             rosters: Rosters::of(&[0, 6], 16),
@@ -73,10 +85,11 @@ impl Tally {
         if case.top >= 0 {
             self.tops.note(case.top);
         }
-        for line in from_utf8(&ran.record).expect("digits and letters").lines() {
+        let record = from_utf8(&ran.record).expect("digits and letters");
+        for line in record.lines() {
             self.note_line(line);
         }
-        self.note_text(&case.text);
+        self.note_text(&case.text, record);
         Ok(())
     }
 
@@ -91,8 +104,7 @@ impl Tally {
 
     /// A line of a record.
     fn note_line(&mut self, line: &str) {
-        let figures = line.split(|letter: char| !letter.is_ascii_digit());
-        let figures: Vec<u32> = figures.filter_map(|digits| digits.parse().ok()).collect();
+        let figures = figures(line);
         if line.starts_with("(done") {
             self.done += 1;
             for (most, figure) in self.most.iter_mut().zip(figures) {
@@ -108,17 +120,34 @@ impl Tally {
         }
     }
 
-    fn note_text(&mut self, text: &[u8]) {
+    fn note_text(&mut self, text: &[u8], record: &str) {
         if text.is_empty() {
             self.blank += 1;
             return;
         }
         let trace = grammar::read(text).expect("a text that was run");
-        for step in trace.steps {
-            self.words.note(step.words.len());
-            for word in step.words {
-                self.digits.note(digits(word));
-            }
+        let lines = record.lines().skip(1);
+        for (step, line) in trace.steps.iter().zip(lines) {
+            self.note_words(trace.boards / 2, step, line);
+        }
+    }
+
+    /// A change line of a text with its line of the record, of a rack with so many
+    /// boards in half.
+    fn note_words(&mut self, half: u32, step: &Step, line: &str) {
+        self.words.note(step.words.len());
+        for word in &step.words {
+            self.digits.note(digits(*word));
+        }
+        let first = figures(line)[0];
+        let done = line.starts_with("(done");
+        if step.words.is_empty() {
+            self.without.note(if done { 0 } else { first });
+        }
+        if done {
+            self.draws.note(first);
+            self.passing += u64::from(first > half);
+            self.few += u64::from(first > 0 && step.words.len() < half as usize);
         }
     }
 
@@ -138,6 +167,10 @@ impl Tally {
             self.crowded, self.means
         );
         println!("{}", self.digits);
+        println!(
+            "{} changes with more draws than n div 2, {} that drew with fewer words; without any by {}",
+            self.passing, self.few, self.without
+        );
     }
 
     /// An error if something that can come never did.
@@ -153,15 +186,27 @@ impl Tally {
         self.means.all_came().map_err(of_means)?;
         self.words.all_came()?;
         self.digits.all_came()?;
+        self.draws.all_came()?;
+        let of_none = |why| format!("lines without words: {why}");
+        self.without.all_came().map_err(of_none)?;
         self.rosters.all_came()?;
         if self.blank == 0 {
             return Err("never met: a text of no bytes that was run".into());
         }
+        if self.few == 0 {
+            return Err("never met: a draw with fewer words than n div 2".into());
+        }
         match self.most.iter().all(|&most| most >= 10) {
             true => Ok(()),
-            false => Err("never met: draws, falls and pairs of two digits".into()),
+            false => Err("never met: falls and pairs of two digits".into()),
         }
     }
+}
+
+/// The figures of a line of a record.
+fn figures(line: &str) -> Vec<u32> {
+    let figures = line.split(|letter: char| !letter.is_ascii_digit());
+    figures.filter_map(|digits| digits.parse().ok()).collect()
 }
 
 /// How many digits a figure has.

@@ -41,6 +41,11 @@ impl<K: Copy + Ord + Debug> Seen<K> {
         self.times.values().sum()
     }
 
+    /// How often the rarest of them came.
+    pub fn least(&self) -> u64 {
+        self.times.values().copied().min().unwrap_or(0)
+    }
+
     /// How often one of them came.
     pub fn times(&self, one: K) -> u64 {
         self.times.get(&one).copied().unwrap_or(0)

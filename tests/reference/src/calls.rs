@@ -6,17 +6,20 @@ use crate::moves::{self, Done};
 use crate::queues::Order;
 use crate::rack::Rack;
 use crate::sound::sound;
+use crate::words::OutOfWords;
 
 /// The change codes: "neither 1 (add) nor 2 (drop)" is turned back.
 pub const ADD: u32 = 1;
 pub const DROP: u32 = 2;
 
 /// "A change answers 0, its draws, its falls (moves down by one level) and the
-/// pairs then held." Turned back: "the number, with all other figures 0".
+/// pairs then held." Turned back: "the number, with all other figures 0". "The
+/// draws figure counts words used, passed-over ones included" (document 02,
+/// W-206), so it goes as far as a list may.
 #[derive(Clone, Copy, Debug, PartialEq, Eq)]
 pub struct Answer {
     pub number: u32,
-    pub draws: u32,
+    pub draws: u64,
     pub falls: u32,
     pub pairs: u32,
 }
@@ -156,7 +159,7 @@ pub fn change_with_pairs(
     (answer, new_pairs)
 }
 
-/// One change on a rack known to be sound: 7 to 12, and otherwise the moves.
+/// One change on a rack known to be sound: 7 to 12, or what the moves come to.
 pub fn change_rack(
     rack: &mut Rack,
     code: u32,
@@ -178,20 +181,31 @@ pub fn change_in_order(
     b: u32,
     words: &[u32],
 ) -> (Answer, Vec<(u32, u32)>) {
-    let (a, b) = match allowed(rack, code, a, b, words.len()) {
-        Ok(both) => both,
-        Err(number) => return (Answer::refused(number), Vec::new()),
-    };
+    match made(order, rack, code, a, b, words) {
+        Ok(done) => {
+            let reply = told(&done);
+            *rack = done.rack;
+            reply
+        }
+        Err(number) => (Answer::refused(number), Vec::new()),
+    }
+}
+
+/// The change made on a copy of the rack, or its number from 7 to 12: "Number 12
+/// now means exactly that the change as defined runs out of words, it remains
+/// last" and "otherwise the rack keeps its bytes" (document 02, W-206).
+fn made(order: Order, rack: &Rack, code: u32, a: u32, b: u32, words: &[u32]) -> Result<Done, u32> {
+    let (a, b) = allowed(rack, code, a, b)?;
     let done = if code == ADD {
         moves::add(rack, a, b, words, order)
     } else {
         moves::drop(rack, a, b, words, order)
     };
-    told(rack, &done)
+    done.map_err(|OutOfWords| 12)
 }
 
-/// Numbers 7 to 12, first fit first; otherwise the two boards.
-fn allowed(rack: &Rack, code: u32, a: u32, b: u32, words: usize) -> Result<(usize, usize), u32> {
+/// Numbers 7 to 11, first fit first; otherwise the two boards.
+fn allowed(rack: &Rack, code: u32, a: u32, b: u32) -> Result<(usize, usize), u32> {
     if code != ADD && code != DROP {
         return Err(7);
     }
@@ -202,19 +216,16 @@ fn allowed(rack: &Rack, code: u32, a: u32, b: u32, words: usize) -> Result<(usiz
     if code == DROP && !rack.linked(a, b) {
         return Err(11);
     }
-    if words < rack.n / 2 {
-        return Err(12);
-    }
     Ok((a, b))
 }
 
 /// What an accepted change answers.
-fn told(rack: &Rack, done: &Done) -> (Answer, Vec<(u32, u32)>) {
+fn told(done: &Done) -> (Answer, Vec<(u32, u32)>) {
     let answer = Answer {
         number: 0,
-        draws: done.draws as u32,
+        draws: done.draws as u64,
         falls: done.falls as u32,
-        pairs: rack.pairs().len() as u32,
+        pairs: done.rack.pairs().len() as u32,
     };
     let pairs = done.new_pairs.iter();
     let pairs = pairs.map(|&(u, y)| (u as u32, y as u32)).collect();

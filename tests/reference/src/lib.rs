@@ -15,6 +15,7 @@ pub mod queues;
 pub mod rack;
 pub mod sound;
 pub mod trace;
+pub mod words;
 
 pub use calls::{audit, change, change_with_pairs, level, linked, make, mate, Answer};
 pub use calls::{roster, rosters};

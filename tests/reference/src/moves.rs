@@ -2,45 +2,63 @@
 
 use crate::queues::{Order, Queues};
 use crate::rack::{threshold, Rack, HIGHEST};
+use crate::words::{OutOfWords, Words};
 
-/// One change in play: the rack, the words lent, the boards that wait, and what
-/// happened so far.
+/// One change in play: a copy of the rack, the words lent, the boards that wait,
+/// and what happened so far.
 pub struct Play<'a> {
-    rack: &'a mut Rack,
-    words: &'a [u32],
+    rack: Rack,
+    words: Words<'a>,
     queues: Queues,
-    used: usize,
     falls: usize,
     new_pairs: Vec<(usize, usize)>,
 }
 
-/// What a change did: the words it used, its falls, and the u and the y of
-/// each of its draws in order.
+/// What a change did: the rack after it, the words it used, its falls, and the u
+/// and the y of each of its draws in order. "The draws figure counts words used,
+/// passed-over ones included" (document 02, W-206).
 #[derive(Clone, Debug, PartialEq, Eq)]
 pub struct Done {
+    pub rack: Rack,
     pub draws: usize,
     pub falls: usize,
     pub new_pairs: Vec<(usize, usize)>,
 }
 
-/// Adds the link a-b, which isn't there, to a sound rack. "The riser's pair, if
-/// any, is parted; it rises, it draws, the settling follows."
-pub fn add(rack: &mut Rack, a: usize, b: usize, words: &[u32], order: Order) -> Done {
+/// A move made whole, or broken off where its words ran out: "A change is carried
+/// out only if its words suffice" (document 02, W-206).
+type Moved = Result<(), OutOfWords>;
+
+/// Adds the link a-b, which isn't there, to a copy of a sound rack. "The riser's
+/// pair, if any, is parted; it rises, it draws, the settling follows."
+pub fn add(
+    rack: &Rack,
+    a: usize,
+    b: usize,
+    words: &[u32],
+    order: Order,
+) -> Result<Done, OutOfWords> {
     let mut play = Play::start(rack, words, order);
     play.put_link(a, b);
     if let Some((u, i)) = play.search_for_a_rise(a, b) {
         play.lose_mate(u);
         play.rise(u, i);
-        play.draw(u, i);
-        play.settle();
+        play.draw(u, i)?;
+        play.settle()?;
     }
-    play.finish()
+    Ok(play.finish())
 }
 
-/// Drops the link a-b, which is there, from a sound rack. "If its ends were
-/// mates, part them and settle. Otherwise no level changes." And: "Parting by a
-/// drop puts the lower number first." (document 02, W-203)
-pub fn drop(rack: &mut Rack, a: usize, b: usize, words: &[u32], order: Order) -> Done {
+/// Drops the link a-b, which is there, from a copy of a sound rack. "If its ends
+/// were mates, part them and settle. Otherwise no level changes." And: "Parting by
+/// a drop puts the lower number first." (document 02, W-203)
+pub fn drop(
+    rack: &Rack,
+    a: usize,
+    b: usize,
+    words: &[u32],
+    order: Order,
+) -> Result<Done, OutOfWords> {
     let mut play = Play::start(rack, words, order);
     play.rack.owner[a][b] = false;
     play.rack.owner[b][a] = false;
@@ -48,18 +66,17 @@ pub fn drop(rack: &mut Rack, a: usize, b: usize, words: &[u32], order: Order) ->
         play.part(a, b);
         play.wait(a.min(b));
         play.wait(a.max(b));
-        play.settle();
+        play.settle()?;
     }
-    play.finish()
+    Ok(play.finish())
 }
 
 impl Play<'_> {
-    fn start<'a>(rack: &'a mut Rack, words: &'a [u32], order: Order) -> Play<'a> {
+    fn start<'a>(rack: &Rack, words: &'a [u32], order: Order) -> Play<'a> {
         Play {
-            rack,
-            words,
+            rack: rack.clone(),
+            words: Words::lent(words),
             queues: Queues::empty(order),
-            used: 0,
             falls: 0,
             new_pairs: Vec::new(),
         }
@@ -67,11 +84,12 @@ impl Play<'_> {
 
     fn finish(self) -> Done {
         debug_assert!(
-            self.queues.are_empty() && self.queues.list_the_waiting(self.rack),
+            self.queues.are_empty() && self.queues.list_the_waiting(&self.rack),
             "a board waits after a change"
         );
         Done {
-            draws: self.used,
+            rack: self.rack,
+            draws: self.words.used(),
             falls: self.falls,
             new_pairs: self.new_pairs,
         }
@@ -136,39 +154,32 @@ impl Play<'_> {
         }
     }
 
-    /// "The next unused word is used."
-    fn next_word(&mut self) -> u32 {
-        let word = self.words[self.used];
-        self.used += 1;
-        word
-    }
-
     /// "Draw at u, level i: list u's neighbours below i by rising number, k of
-    /// them; the chosen one stands at place (word mod k), places from 0. [...]
+    /// them; the chosen one stands at place [...], places from 0. [...]
     /// If the chosen y has a mate, that pair is parted. Then y rises to i, and
     /// u and y are mates." The mate of a riser u is lost before: "A riser's former
     /// mate comes before the chosen board's former mate." (document 02, W-203)
-    fn draw(&mut self, u: usize, i: i32) {
+    fn draw(&mut self, u: usize, i: i32) -> Moved {
         let below = self.rack.neighbours_below(u, i);
-        let k = below.len();
-        let y = below[self.next_word() as usize % k];
+        let y = below[self.words.choose(below.len())?];
         self.lose_mate(y);
         self.rise(y, i);
         self.rack.mate[u] = Some(y);
         self.rack.mate[y] = Some(u);
         self.new_pairs.push((u, y));
+        Ok(())
     }
 
     /// "Taking a waiting v at level i": hand on, then draw if "k is at least
     /// 4^i", and fall if not.
-    fn take(&mut self, v: usize) {
+    fn take(&mut self, v: usize) -> Moved {
         let i = self.rack.level[v];
         self.hand_on(v, i);
         let k = self.rack.neighbours_below(v, i).len();
         if k >= threshold(i) {
-            self.draw(v, i);
+            self.draw(v, i)
         } else {
-            self.fall(v, i);
+            self.fall(v, i)
         }
     }
 
@@ -188,7 +199,7 @@ impl Play<'_> {
     /// board is looked at when its turn comes. "A board that falls joins the end
     /// of its new level before any rise that follows the fall." (document 02,
     /// W-203)
-    fn fall(&mut self, v: usize, i: i32) {
+    fn fall(&mut self, v: usize, i: i32) -> Moved {
         self.rack.level[v] = i - 1;
         self.falls += 1;
         self.wait(v);
@@ -196,33 +207,36 @@ impl Play<'_> {
             .filter(|&w| self.rack.owner[v][w])
             .collect();
         for w in owned {
-            self.look_at(w, i);
+            self.look_at(w, i)?;
         }
+        Ok(())
     }
 
     /// "each one that is below i with a count at i of at least 4^i loses its
     /// mate if it has one, rises to i and draws."
-    fn look_at(&mut self, w: usize, i: i32) {
+    fn look_at(&mut self, w: usize, i: i32) -> Moved {
         if self.rack.level[w] < i && self.rack.reaches(w, i) {
             self.lose_mate(w);
             self.rise(w, i);
-            self.draw(w, i);
+            self.draw(w, i)?;
         }
+        Ok(())
     }
 
     /// "The settling: while any board waits, take one of the highest level", and
     /// "the one that has waited at that level longest" (document 02, W-203).
-    fn settle(&mut self) {
+    fn settle(&mut self) -> Moved {
         while let Some(v) = self.next_waiting() {
-            self.take(v);
+            self.take(v)?;
         }
+        Ok(())
     }
 
     /// The first of the queues. The assertions here and at the end of a change
     /// are for the self-check, which is built with them.
     fn next_waiting(&mut self) -> Option<usize> {
         debug_assert!(
-            self.queues.list_the_waiting(self.rack),
+            self.queues.list_the_waiting(&self.rack),
             "the queues are not the waiting boards"
         );
         self.queues.take()

@@ -1,13 +1,25 @@
 -- `changes::add` meets its contract. Assumes nothing.
 use mathlib.Core.Path.{_≡_, sym, ap, _∙_}
 use Prim.Native.Nat.{suc}
+use native.Mathlib.Omega.{arith}
 use Rattle.model.specs.Shape.{low}
 use Rattle.model.specs.State.{base}
 use Rattle.model.specs.Bytes.{read}
 use Rattle.model.specs.Moves.{found}
 use Rattle.model.specs.Change.{riser}
 use Rattle.edges.specs.Steps.{reachedBy}
-use Rattle.changes.proofs.Wholes.{sounded-held, Added, added-begun, added-inside, added-riser, added-none, added-found}
+use Rattle.changes.proofs.Wholes.{
+  sounded-held,
+  Added,
+  added-begun,
+  added-inside,
+  added-drops,
+  added-none,
+  added-riser,
+  added-enough,
+  added-made,
+  added-back,
+}
 use borrow.Author.Needs.{needs}
 use Rattle.changes.proofs.add.Statement.{statement}
 use Rattle.changes.proofs.add.Tie as tie
@@ -58,19 +70,40 @@ returns c =
     let r = c .before .before .before in
     added-none (added (edged r)) _ (sym (r .riser .ensures) ∙ ap reachedBy (c .before .enum-told .given .1)) (c .new .ensures)
 
-promote-and-settle-requires : tie.Need-promote-and-settle-requires
-promote-and-settle-requires c κs =
+within-requires : tie.Need-within-requires
+within-requires c κs =
     let f = c .before .before in
-    let x = added (edged (searched f)) in
-    (added-begun x, added-riser x (reached f))
+    let e = edged (searched f) in
+    let x = added e in
+    ((added-begun x, added-riser x (reached f)), added-enough x (reached f) (begin e .args .words .now))
+
+-- what is tried, and that it is made, or the edge is taken out again
+abbrev rose : tie.After-within → tie.After-i
+rose c = c .before .before .before
+
+drop-edge-requires : tie.Need-drop-edge-requires
+drop-edge-requires c κs =
+    let w = c .before .before .before .before .before in
+    added-drops (added (edged (searched (rose w)))) (w .within .ensures .kept (omega (arith, c .before .if1 .taken)))
 
 same-length-2 : tie.Need-same-length-2
 same-length-2 c = search needs
 
 returns-2 : tie.Need-returns-2
 returns-2 c =
-    let f = c .before .before .before .before .before in
-    added-found (added (edged (searched f))) (reached f) _ (c .before .before .promote-and-settle .ensures)
+    let i = c .before .before .before .before in
+    let w = i .before .before .before .before in
+    let e = edged (searched (rose w)) in
+    added-back (added e) (reached (rose w)) (begin e .args .words .now) (w .within .ensures) (omega (arith, i .if1 .taken)) (c .before .before .drop-edge .ensures)
+
+same-length-3 : tie.Need-same-length-3
+same-length-3 c = search needs
+
+returns-3 : tie.Need-returns-3
+returns-3 c =
+    let w = c .before .before .before .before in
+    let e = edged (searched (rose w)) in
+    added-made (added e) (reached (rose w)) (begin e .args .words .now) (w .within .ensures) (omega (arith, c .if1 .left))
 
 pub add-spec : {M : Type 1} → statement M
 add-spec =
@@ -83,6 +116,9 @@ add-spec =
     new-requires
     same-length
     returns
-    promote-and-settle-requires
+    within-requires
+    drop-edge-requires
     same-length-2
-    returns-2)
+    returns-2
+    same-length-3
+    returns-3)

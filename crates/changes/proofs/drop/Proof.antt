@@ -1,40 +1,35 @@
 -- `changes::drop` meets its contract. Assumes nothing.
 use native.Mathlib.Omega.{arith}
 use Rattle.model.specs.Shape.{low}
-use Rattle.moves.proofs.Held.{held-sized}
-use Rattle.changes.proofs.Wholes.{sounded-held, Dropped, dropped-begun, dropped-inside, dropped-small, dropped-mates, dropped-loose, dropped-pair}
+use Rattle.model.specs.Bytes.{read}
+use Rattle.moves.proofs.Held.{held-sized, held-small}
+use Rattle.changes.specs.Working.{Joins}
+use Rattle.changes.proofs.Wholes.{sounded-held, Dropped, dropped-loose, joins, loose, pair-enough, pair-tried}
 use borrow.Author.Needs.{needs}
 use Rattle.changes.proofs.drop.Statement.{statement}
 use Rattle.changes.proofs.drop.Tie as tie
 
--- the places, each from a later one
-abbrev begin : tie.After-drop-edge → tie.Start
-begin c = c .before .before .before .before
-
-abbrev edged : tie.After-mate → tie.After-drop-edge
-edged c = c .before .before .before .before
-
--- the edge is taken out
-dropped : (c : tie.After-drop-edge) →
-    let a = begin c .args in
-    Dropped low (a .rack .now) (a .a) (a .b) (c .drop-edge .last .0)
-dropped c = record { from = begin c .pre .0; ends = begin c .pre .1; rack = c .drop-edge .ensures }
-
-drop-edge-requires : tie.Need-drop-edge-requires
-drop-edge-requires c κs = let d = c .before .before .before in (sounded-held (d .args .rack .now) (d .pre .0), d .pre .1)
-
 mate-requires : tie.Need-mate-requires
-mate-requires c κs = let x = dropped (c .before .before .before) in (held-sized (dropped-begun x .held), dropped-small x .0)
+mate-requires c κs =
+    let s = c .before .before .before in
+    let h = sounded-held (s .args .rack .now) (s .pre .0) in
+    (held-sized h, held-small h (s .args .a) (s .pre .1 .0))
 
 cast-if1 : tie.Need-cast-if1
 cast-if1 c = search needs
 
-part-and-settle-requires : tie.Need-part-and-settle-requires
-part-and-settle-requires c κs =
-    let m = c .before .before in
-    let x = dropped (edged m) in
-    let l = dropped-inside x in
-    (dropped-begun x, (l .0, l .1, x .ends .2, dropped-mates x (m .mate .ensures) (omega (arith, c .before .if1 .taken))))
+-- where the function begins, and that its edge joins mates
+abbrev begin : tie.After-mate → tie.Start
+begin c = c .before .before .before .before
+
+mates : (c : tie.Then1) → let a = begin (c .before) .args in Joins (read low (a .rack .now)) (a .a) (a .b)
+mates c = let s = begin (c .before) in joins (s .pre .0) (s .pre .1) (c .before .mate .ensures) (omega (arith, c .if1 .taken))
+
+within-requires : tie.Need-within-requires
+within-requires c κs =
+    let s = begin (c .before .before) in
+    let j = mates (c .before) in
+    ((s .pre .0, j), pair-enough (s .pre .0) (s .pre .1) (s .args .words .now) j)
 
 same-length : tie.Need-same-length
 same-length c = search needs
@@ -42,8 +37,11 @@ same-length c = search needs
 returns : tie.Need-returns
 returns c =
     let i = c .before .before .before .before in
-    let m = i .before in
-    dropped-pair (dropped (edged m)) (m .mate .ensures) _ (i .if1 .taken) (c .before .before .part-and-settle .ensures)
+    let s = begin (i .before) in
+    pair-tried (s .pre .0) (s .pre .1) (s .args .words .now) (mates i) (c .before .before .within .ensures)
+
+drop-edge-requires : tie.Need-drop-edge-requires
+drop-edge-requires c κs = let s = begin (c .before .before) in (sounded-held (s .args .rack .now) (s .pre .0), s .pre .1)
 
 new-requires : tie.Need-new-requires
 new-requires c κs = search needs
@@ -53,19 +51,23 @@ same-length-2 c = search needs
 
 returns-2 : tie.Need-returns-2
 returns-2 c =
-    let m = c .before .before in
-    dropped-loose (dropped (edged m)) (m .mate .ensures) _ (c .before .if1 .left) (c .new .ensures)
+    let d = c .before .before .before in
+    let i = d .before .before in
+    let s = begin (i .before) in
+    let x : Dropped low (s .args .rack .now) (s .args .a) (s .args .b) (d .drop-edge .last .0) =
+    record { from = s .pre .0; ends = s .pre .1; rack = d .drop-edge .ensures } in
+    dropped-loose x (s .args .words .now) (loose (s .pre .0) (s .pre .1) (i .before .mate .ensures) (λ e. omega (arith, i .if1 .left))) (c .new .ensures)
 
 pub drop-spec : {M : Type 1} → statement M
 drop-spec =
     tie.close
     (tie.spec
-    drop-edge-requires
     mate-requires
     cast-if1
-    part-and-settle-requires
+    within-requires
     same-length
     returns
+    drop-edge-requires
     new-requires
     same-length-2
     returns-2)

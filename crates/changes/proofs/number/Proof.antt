@@ -1,22 +1,22 @@
--- `changes::number` meets its contract: the number of what is named, where it is not 0, and otherwise that of the edge and the words. Assumes
--- nothing.
+-- `changes::number` meets its contract: the number of what is named, where it is not 0, and otherwise that of the edge. Assumes nothing.
 use mathlib.Core.Path.{_≡_, sym, ap, ap₂, _∙_}
 use mathlib.Core.Logic.{_≢_}
+use mathlib.Core.List.{[]}
 use Prim.Native.Nat.{ℕ, _<_}
 use Rattle.model.specs.Shape.{low}
 use Rattle.model.specs.State.{State, edge}
 use Rattle.model.specs.Bytes.{read}
 use Rattle.model.specs.Change.{Change}
 use Rattle.moves.proofs.Held.{held-sized, held-small, held-size}
-use Rattle.changes.specs.Sounded.{brought, endsNumber, linkNumber, wordsNumber, first}
-use Rattle.changes.proofs.Numbers.{ends-are, first-is, first-next, first-zero, ofNamed, ofRest, number-is, edge-held}
+use Rattle.changes.specs.Sounded.{brought, endsNumber, linkNumber, first}
+use Rattle.changes.proofs.Numbers.{ends-are, first-is, first-next, first-zero, ofNamed, early-is, edge-held}
 use borrow.Author.Needs.{needs}
 use Rattle.changes.proofs.number.Statement.{statement}
 use Rattle.changes.proofs.number.Tie as tie
 
 -- the places, each from a later one
 abbrev begin : tie.After-size → tie.Start
-begin c = c .before .before .before
+begin c = c .before .before
 
 abbrev sized : tie.After-first → tie.After-size
 sized c = c .before .before .before
@@ -24,15 +24,12 @@ sized c = c .before .before .before
 abbrev named : tie.After-linked → tie.After-first
 named c = c .before .before
 
-abbrev looked : tie.After-words-number → tie.After-linked
-looked c = c .before .before
-
 -- the state, and the change that is given
 abbrev state : tie.Start → State
 state d = read low (d .args .rack .now)
 
 abbrev given : tie.Start → Change
-given d = brought (d .args .code) (d .args .a) (d .args .b) (d .args .words .now)
+given d = brought (d .args .code) (d .args .a) (d .args .b) []
 
 size-is : (c : tie.After-size) → c .size .result ≡ state (begin c) .n
 size-is c = c .size .ensures ∙ held-size (begin c .pre)
@@ -50,19 +47,8 @@ ends : (c : tie.Else1) →
     (d .args .a < state d .n) × (d .args .b < state d .n) × (d .args .a ≢ d .args .b)
 ends c = ends-are _ _ _ (first-zero _ _ (sym (named-is (c .before)) ∙ c .if1 .left))
 
-rest-is : (c : tie.After-words-number) →
-    let d = begin (sized (named (looked c))) in
-    first (c .before .link-number .result) (c .words-number .result) ≡ ofRest (state d .n) (edge (state d)) (given d)
-rest-is c =
-    let l = looked c in
-    let s = sized (named l) in
-    let d = begin s in
-    ap₂ first
-    (c .before .link-number .ensures ∙ ap (linkNumber (d .args .code)) (l .linked .ensures ∙ edge-held (d .pre) _ _ (ends (l .before))))
-    (c .words-number .ensures ∙ ap (λ (n : ℕ). wordsNumber n (d .args .words .now)) (size-is s))
-
 size-requires : tie.Need-size-requires
-size-requires c κs = held-sized (c .before .before .pre)
+size-requires c κs = held-sized (c .before .pre)
 
 code-number-requires : tie.Need-code-number-requires
 code-number-requires c κs = search needs
@@ -76,7 +62,7 @@ first-requires c κs = search needs
 returns : tie.Need-returns
 returns c =
     let e = named-is (c .before) in
-    e ∙ first-is _ _ (λ z. c .if1 .taken (e ∙ z)) ∙ number-is _ _ _
+    e ∙ first-is _ _ (λ z. c .if1 .taken (e ∙ z)) ∙ early-is _ _ _
 
 linked-requires : tie.Need-linked-requires
 linked-requires c κs =
@@ -87,18 +73,12 @@ linked-requires c κs =
 link-number-requires : tie.Need-link-number-requires
 link-number-requires c κs = search needs
 
-words-number-requires : tie.Need-words-number-requires
-words-number-requires c κs = search needs
-
-first-requires-2 : tie.Need-first-requires-2
-first-requires-2 c κs = search needs
-
 returns-2 : tie.Need-returns-2
 returns-2 c =
-    let r = c .before in
-    let l = looked r in
-    let order : c .first2 .result ≡ first (r .before .link-number .result) (r .words-number .result) = c .first2 .ensures in
-    order ∙ rest-is r ∙ first-next _ _ (sym (named-is (named l)) ∙ l .before .if1 .left) ∙ number-is _ _ _
+    let l = c .before in
+    let d = begin (sized (named l)) in
+    let edge-is = ap (linkNumber (d .args .code)) (l .linked .ensures ∙ edge-held (d .pre) _ _ (ends (l .before))) in
+    c .link-number .ensures ∙ edge-is ∙ first-next _ _ (sym (named-is (named l)) ∙ l .before .if1 .left) ∙ early-is _ _ _
 
 pub number-spec : {M : Type 1} → statement M
 number-spec =
@@ -111,6 +91,4 @@ number-spec =
     returns
     linked-requires
     link-number-requires
-    words-number-requires
-    first-requires-2
     returns-2)

@@ -7,7 +7,7 @@ use Rattle.text.specs.Rooms.{answerRoom, endingRoom}
 use Rattle.text.proofs.Over.{put-kept, length-part}
 use Rattle.moves.proofs.Held.{held-sized}
 use Rattle.changes.proofs.Wholes.{sounded-held}
-use Rattle.run.proofs.Turns.{Going, going-start, Turn, turn-of, head-size, line-room, going-turn, ending-room, end-within, going-end}
+use Rattle.run.proofs.Turns.{Going, going-start, Turn, turn-of, head-size, line-room, words-few, going-turn, ending-room, end-within, going-end}
 use borrow.Author.Needs.{needs}
 use Rattle.run.proofs.put_changes.Statement.{statement}
 use Rattle.run.proofs.put_changes.Tie as tie
@@ -81,7 +81,7 @@ put-change-requires : tie.Need-put-change-requires Inv-loop μ-loop
 put-change-requires c κs =
     let d = c .before .before .before in
     let l = head-loop d .loop in
-    (l .inv .sounded, omega (arith, room d, length-part (l .at) (l .out)))
+    (l .inv .sounded, (words-few (l .inv) (turn d) (d .before .head-at .ensures), omega (arith, room d, length-part (l .at) (l .out))))
 
 -- the state after the turn
 loop-again : tie.Need-loop-again Inv-loop μ-loop

@@ -51,6 +51,7 @@ visit-requires c κs =
     let p = c .before .before in
     let l = loop (p .before) in
     scan-visits (begun (start l)) (l .loop .inv) (some (p .before)) (p .place .ensures) (start l .pre .1 .1 .1)
+    (omega (arith, start l .good .1 .1 .0 .1))
 
 next-requires : tie.Need-next-requires Inv-loop μ-loop
 next-requires c κs =

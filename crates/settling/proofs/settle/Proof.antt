@@ -50,8 +50,9 @@ mul-left c =
 
 loop-holds : tie.Need-loop-holds Inv-loop μ-loop
 loop-holds c =
-    let p = c .before .before .before .before .before .before .pre in
-    going-start _ _ _ _ _ (p .0 .0) (p .0 .1) (p .1 .0) (p .1 .1) (takings (p .0 .0) _ _ (c .before .size .ensures) (c .top .ensures))
+    let s = c .before .before .before .before .before .before in
+    let p = s .pre in
+    going-start _ _ _ _ _ (p .0 .0) (p .0 .1) (p .1 .0) (p .1 .1) (s .good .1 .1 .0 .1) (takings (p .0 .0) _ _ (c .before .size .ensures) (c .top .ensures))
 
 pick-requires : tie.Need-pick-requires Inv-loop μ-loop
 pick-requires c κs =

@@ -12,6 +12,7 @@ mod lengths;
 mod lines;
 mod mutations;
 mod numbers;
+mod passed;
 mod soup;
 mod trace;
 
@@ -78,6 +79,7 @@ pub fn families() -> Vec<Family> {
     let mut all = lengths::families();
     all.extend(grown::families());
     all.extend(crowded::families());
+    all.extend(passed::families());
     all.extend(damages::families());
     all.extend(lines::families());
     all.extend(mutations::families());

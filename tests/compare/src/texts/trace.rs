@@ -20,9 +20,17 @@ pub enum Style {
     Any,
     /// Ten digits each.
     Long,
+    /// Mostly among the highest, which are those passed over.
+    High,
 }
 
-pub const STYLES: [Style; 4] = [Style::Short, Style::FirstLong, Style::Any, Style::Long];
+pub const STYLES: [Style; 5] = [
+    Style::Short,
+    Style::FirstLong,
+    Style::Any,
+    Style::Long,
+    Style::High,
+];
 
 /// A word with at most, or with Style::Long exactly, so many digits as its
 /// style says.
@@ -32,6 +40,7 @@ pub fn word(random: &mut Random, style: Style, place: usize) -> u32 {
         (random.bits() % (1 << bits)) as u32
     };
     match style {
+        Style::High if random.percent(70) => random.high_word(),
         Style::Long if random.percent(5) => u32::MAX,
         Style::Long => random.between(1_000_000_000, u32::MAX as usize) as u32,
         Style::Any => any(random),
@@ -96,6 +105,8 @@ impl Trace {
         let code = if code == 2 { 2 } else { 1 };
         let number = match random.below(60) {
             0 => random.below(MOST_WORDS + 1),
+            // Most changes need no more.
+            1..=15 => random.below(4),
             _ => words.len(),
         };
         let words = self::words(random, style, number.min(MOST_WORDS));

@@ -6,8 +6,16 @@ fn main() -> ExitCode {
     match reference::checks::all(&mut |line| println!("{line}")) {
         Ok(tally) => {
             println!(
-                "most draws of one change {}, most falls {}; new pairs by level {:?}",
-                tally.most_draws, tally.most_falls, tally.standing
+                "most new pairs of one change {}, most falls {}; new pairs by level {:?}",
+                tally.most_new_pairs, tally.most_falls, tally.standing
+            );
+            println!(
+                "{} changes passed words over, at most {} of one change",
+                tally.passing, tally.most_passed
+            );
+            println!(
+                "{} changes ran out of words, {} of walks after a draw; {} of walks were made with fewer than n div 2",
+                tally.numbers[12], tally.ran_out_later, tally.made_with_few
             );
             println!(
                 "{} changes of walks come out otherwise with the lowest number first",

@@ -1,5 +1,5 @@
-//! The worked example of the paper and its bench cases P1 to P13, with the end line
-//! and P12 as document 02 changes them.
+//! The worked example of the paper and its bench cases P1 to P13, with the end
+//! line, P9 and P12 as document 02 changes them.
 
 use super::{holds, same, Tally, Verdict};
 use crate::{audit, change, level, linked, make, mate, program, run, Answer};
@@ -61,7 +61,7 @@ fn fresh(n: u32) -> Vec<u8> {
     rack
 }
 
-fn accepted(draws: u32, falls: u32, pairs: u32) -> Answer {
+fn accepted(draws: u64, falls: u32, pairs: u32) -> Answer {
     Answer {
         number: 0,
         draws,
@@ -186,13 +186,15 @@ fn p8() -> Result<u64, String> {
     Ok(4)
 }
 
+/// "P9 becomes: n = 5, no links, adding 0-1 gets 12 with no word and runs with
+/// one." (document 02, W-206)
 fn p9() -> Result<u64, String> {
     let mut rack = fresh(5);
-    let one = change(&mut rack, 1, 0, 1, &[0]);
-    same("one word", one, Answer::refused(12))?;
+    let none = change(&mut rack, 1, 0, 1, &[]);
+    same("no word", none, Answer::refused(12))?;
     holds("nothing is written", rack == fresh(5))?;
-    let two = change(&mut rack, 1, 0, 1, &[0, 0]);
-    same("two words", two, accepted(1, 0, 1))?;
+    let one = change(&mut rack, 1, 0, 1, &[0]);
+    same("one word", one, accepted(1, 0, 1))?;
     Ok(2)
 }
 
@@ -236,7 +238,7 @@ fn p13() -> Result<u64, String> {
     same("text length", text.len(), 16_384)?;
     let read = run(&mut rack, text.as_bytes(), &mut record);
     same("16,384 bytes", (read.number, read.line), (0, 0))?;
-    // All changes but the last bring too few words.
+    // All changes but the last bring no word.
     let refused = "(refused 12)\n".repeat(text.lines().count() - 2);
     let wanted = format!("(rack (boards 4))\n{refused}{LAST_LINES}");
     let written = String::from_utf8_lossy(&record[..read.length]);

@@ -25,24 +25,29 @@ impl Book {
     }
 
     /// "For each change it goes through 7 to 12 in order; "there" means in its
-    /// set. The first that fits is the change's number".
-    pub fn number_of(&self, code: u32, a: u32, b: u32, words: usize) -> u32 {
+    /// set. The first that fits is the change's number". 12 it is told: "The link
+    /// book, which holds no levels, is told of each change that 7 to 11 don't fit
+    /// whether the change as defined, on the rack before it, runs out of words; it
+    /// isn't told the core's answer." (document 02, W-206)
+    pub fn number_of(&self, code: u32, a: u32, b: u32, runs_out: impl Fn() -> bool) -> u32 {
         let fits = [
             (7, code == 0 || code > 2),
             (8, a >= self.n || b >= self.n),
             (9, a == b),
             (10, code == 1 && self.has(a, b)),
             (11, code == 2 && !self.has(a, b)),
-            (12, words < (self.n / 2) as usize),
         ];
-        let first = fits.iter().find(|(_, fits)| *fits);
-        first.map_or(0, |(number, _)| *number)
+        match fits.iter().find(|(_, fits)| *fits) {
+            Some((number, _)) => *number,
+            None if runs_out() => 12,
+            None => 0,
+        }
     }
 
     /// Writes a change into the book and gives its number: "an add puts its
     /// link in, a drop takes it out."
-    pub fn note(&mut self, code: u32, a: u32, b: u32, words: usize) -> u32 {
-        let number = self.number_of(code, a, b, words);
+    pub fn note(&mut self, code: u32, a: u32, b: u32, runs_out: impl Fn() -> bool) -> u32 {
+        let number = self.number_of(code, a, b, runs_out);
         let link = (a.min(b), a.max(b));
         if number == 0 && code == 1 {
             self.links.insert(link);

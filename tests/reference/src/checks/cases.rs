@@ -11,7 +11,7 @@ pub struct Case {
     pub rack: Rack,
     pub change: (u32, u32, u32),
     pub words: Vec<u32>,
-    pub draws: Vec<(u32, u32)>,
+    pub new_pairs: Vec<(u32, u32)>,
     pub falls: u32,
     pub after: Rack,
 }
@@ -36,19 +36,25 @@ pub fn hand_worked(tally: &mut Tally) -> Verdict {
     Ok(format!("{} cases worked by hand: ok", cases.len()))
 }
 
-/// Makes the change, and looks at all that it must come to.
+/// Makes the change, which passes no word over, and looks at all that it must
+/// come to.
 pub fn play(case: &Case) -> Result<(), String> {
+    play_passing(0, case)
+}
+
+/// The same of a change that passes so many words over.
+pub fn play_passing(passed: usize, case: &Case) -> Result<(), String> {
     let mut bytes = case.rack.to_bytes();
     same("audit before", audit(&bytes), (0, true))?;
     let (code, a, b) = case.change;
     let (answer, pairs) = change_with_pairs(&mut bytes, code, a, b, &case.words);
     let wanted = Answer {
         number: 0,
-        draws: case.draws.len() as u32,
+        draws: (case.new_pairs.len() + passed) as u64,
         falls: case.falls,
         pairs: case.after.pairs().len() as u32,
     };
-    same("new pairs", &pairs, &case.draws)?;
+    same("new pairs", &pairs, &case.new_pairs)?;
     same("answer", answer, wanted)?;
     let after = Rack::from_bytes(&bytes).ok_or("the rack after it is not sound")?;
     same("levels", &after.level, &case.after.level)?;
@@ -65,7 +71,7 @@ fn both_reach() -> Case {
         rack: Rack::empty(2),
         change: (1, 1, 0),
         words: vec![9],
-        draws: vec![(0, 1)],
+        new_pairs: vec![(0, 1)],
         falls: 0,
         after: drawn(2, &[(0, 1, 0)], &[(0, 1)]),
     }
@@ -79,7 +85,7 @@ fn owner_on_equal_levels() -> Case {
         rack: drawn(4, &pairs, &[(1, 0), (3, 2)]),
         change: (1, 2, 1),
         words: vec![0, 0],
-        draws: vec![],
+        new_pairs: vec![],
         falls: 0,
         after: drawn(4, &pairs, &[(1, 0), (3, 2), (1, 2)]),
     }
@@ -93,7 +99,7 @@ fn owner_by_level() -> Case {
         rack: drawn(4, &pairs, &[(1, 0), (3, 2)]),
         change: (1, 1, 2),
         words: vec![0, 0],
-        draws: vec![],
+        new_pairs: vec![],
         falls: 0,
         after: drawn(4, &pairs, &[(1, 0), (3, 2), (2, 1)]),
     }
@@ -108,7 +114,7 @@ fn long_words() -> Case {
         rack: drawn(5, &[(0, 3, 1)], &[(0, 1), (0, 2), (0, 3), (0, 4)]),
         change: (2, 0, 3),
         words: vec![2_147_483_649, 0],
-        draws: vec![(0, 1)],
+        new_pairs: vec![(0, 1)],
         falls: 3,
         after: drawn(5, &[(0, 1, 0)], &[(0, 1), (0, 2), (0, 4)]),
     }
@@ -129,7 +135,7 @@ fn higher_level_first(word: u32) -> Case {
         rack: drawn(8, &[(1, 4, 0), (2, 6, 0), (3, 7, 0)], &before),
         change: (1, 0, 5),
         words: vec![word, 0, 0, 0],
-        draws: vec![(5, word)],
+        new_pairs: vec![(5, word)],
         falls,
         after: drawn(
             8,
@@ -159,7 +165,7 @@ fn scan_one_by_one(word: u32) -> Case {
         rack: drawn(8, &[(0, 1, 1), (2, 4, 0), (3, 5, 0)], &before),
         change: (2, 1, 0),
         words: vec![word, 0, 0, 0],
-        draws: vec![(2, y)],
+        new_pairs: vec![(2, y)],
         falls,
         after: drawn(8, &kept, &links),
     }
@@ -173,7 +179,7 @@ fn hands_on_and_stays() -> Case {
         rack: drawn(6, &paired, &[(0, 1), (0, 2), (1, 3), (0, 4), (4, 5)]),
         change: (2, 0, 1),
         words: vec![3, 8, 0],
-        draws: vec![(0, 2), (1, 3)],
+        new_pairs: vec![(0, 2), (1, 3)],
         falls: 0,
         after: drawn(
             6,
@@ -207,7 +213,7 @@ fn highest_waits_least() -> Case {
         rack,
         change: (1, 14, 0),
         words: vec![1, 4, 7, 0, 0, 0, 0, 0, 0, 0, 0],
-        draws: vec![(0, 2), (3, 19), (1, 18)],
+        new_pairs: vec![(0, 2), (3, 19), (1, 18)],
         falls: 0,
         after: drawn(23, &after, &owned),
     }

@@ -102,16 +102,22 @@ fn bounds(rack: &[u8], book: &Book) -> Result<(), String> {
 }
 
 /// The facts of an accepted change's answer: its pairs, its draws and its new
-/// pairs.
+/// pairs. "the limit of half the boards now concerns new pairs in a change, and the
+/// figure need no longer equal their number" (document 02, W-206); each of them
+/// uses a word, and no word is used that isn't lent.
 pub fn of_answer(
     rack: &[u8],
     book: &Book,
+    words: &[u32],
     answer: &Answer,
     new_pairs: &[(u32, u32)],
 ) -> Result<(), String> {
     same("pairs", answer.pairs, pairs(rack, book).len() as u32)?;
-    same("draws", answer.draws, new_pairs.len() as u32)?;
-    holds("draws are at most n div 2", answer.draws <= book.n / 2)?;
+    let (new, lent) = (new_pairs.len() as u64, words.len() as u64);
+    let most = u64::from(book.n / 2);
+    holds("new pairs are at most n div 2", new <= most)?;
+    holds("each new pair uses a word", new <= answer.draws)?;
+    holds("no more words are used than lent", answer.draws <= lent)?;
     let mut boards: Vec<u32> = new_pairs.iter().flat_map(|&(u, y)| [u, y]).collect();
     boards.sort_unstable();
     let twice = boards.windows(2).any(|two| two[0] == two[1]);
@@ -124,10 +130,25 @@ fn neighbours(rack: &[u8], book: &Book, v: u32, j: i32) -> Vec<u32> {
     low.filter(|&w| w != v && book.has(v, w)).collect()
 }
 
+/// The board that a draw chooses. All 2^32 words go round the k places in turn;
+/// the first word that isn't of the last round, if that one ends early, tells the
+/// place. None if there is no such word.
+fn chosen(below: &[u32], words: &[u32]) -> Option<u32> {
+    let k = below.len() as u64;
+    let rounds = (1 << 32) / k;
+    let word = words.iter().find(|&&word| u64::from(word) / k < rounds)?;
+    Some(below[*word as usize % below.len()])
+}
+
 /// The first rise of an add, worked out from the book after it and the levels
-/// before it: the new pair of the riser and the board at the word's place, or
+/// before it: the new pair of the riser and the board chosen by the words, or
 /// none if no level is reached.
-pub fn first_of_add(before: &[u8], book: &Book, a: u32, b: u32, word: u32) -> Option<(u32, u32)> {
+pub fn first_of_add(
+    before: &[u8],
+    book: &Book,
+    (a, b): (u32, u32),
+    words: &[u32],
+) -> Option<(u32, u32)> {
     let mut best: Option<(i32, u32)> = None;
     for (j, limit) in [(0, 1), (1, 4), (2, 16), (3, 64)] {
         for v in [a.max(b), a.min(b)] {
@@ -140,16 +161,24 @@ pub fn first_of_add(before: &[u8], book: &Book, a: u32, b: u32, word: u32) -> Op
     }
     let (j, riser) = best?;
     let below = neighbours(before, book, riser, j);
-    Some((riser, below[word as usize % below.len()]))
+    Some((riser, chosen(&below, words)?))
 }
 
 /// The first new pair of a drop that parts a and b, if the lower of them has
 /// neighbours enough to stay on its level: it draws before anything else.
-pub fn first_of_drop(before: &[u8], book: &Book, a: u32, b: u32, word: u32) -> Option<(u32, u32)> {
+pub fn first_of_drop(
+    before: &[u8],
+    book: &Book,
+    (a, b): (u32, u32),
+    words: &[u32],
+) -> Option<(u32, u32)> {
     let (v, i) = (a.min(b), level(before, a));
     let below = neighbours(before, book, v, i);
     let stays = below.len() >= 1 << (2 * i);
-    stays.then(|| (v, below[word as usize % below.len()]))
+    stays
+        .then(|| chosen(&below, words))
+        .flatten()
+        .map(|y| (v, y))
 }
 
 /// The bytes of a rack after a link was put in or taken out and nothing else

@@ -93,7 +93,7 @@ pub fn fans(tally: &mut Tally) -> Verdict {
             wander(&fan, tally)?;
         }
     }
-    same("draws of the largest fan", tally.most_draws, 48)?;
+    same("new pairs of the largest fan", tally.most_new_pairs, 48)?;
     same("falls of the largest fan", tally.most_falls, 296)?;
     Ok(format!(
         "{} from fans: ok",
@@ -109,7 +109,7 @@ fn opened(fan: &Fan, tally: &mut Tally) -> Result<(), String> {
     let (answer, pairs) = change_with_pairs(&mut bytes, 2, 0, 1, &words);
     let ribs = (0..fan.ribs).map(|r| fan.rib(r) as u32);
     let wanted: Vec<(u32, u32)> = ribs.map(|rib| (rib, rib + 2)).collect();
-    same("new pairs", pairs, wanted)?;
+    same("new pairs", &pairs, &wanted)?;
     same("draws", answer.draws as usize, fan.ribs)?;
     same("falls", answer.falls as usize, fan.falls())?;
     same(
@@ -118,7 +118,7 @@ fn opened(fan: &Fan, tally: &mut Tally) -> Result<(), String> {
         fan.core().len() / 2 + fan.ribs,
     )?;
     holds("the bytes after it", bytes == fan.after().to_bytes())?;
-    tally.note(&answer);
+    tally.note(&answer, pairs.len());
     Ok(())
 }
 

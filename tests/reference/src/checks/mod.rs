@@ -7,6 +7,7 @@ pub mod book;
 pub mod cases;
 pub mod exact;
 pub mod facts;
+pub mod fair;
 pub mod fans;
 pub mod makers;
 pub mod order;
@@ -15,7 +16,9 @@ pub mod refusals;
 pub mod rival;
 pub mod rosters;
 pub mod shape;
+pub mod shortage;
 pub mod small;
+pub mod stars;
 pub mod texts;
 pub mod traces;
 pub mod walk;
@@ -32,10 +35,17 @@ pub struct Tally {
     /// Changes asked for, and how often each number came of them.
     pub changes: u64,
     pub numbers: [u64; 13],
-    /// Draws of all changes, and the most draws and falls of one.
+    /// Draws of all changes, and the most new pairs and falls of one.
     pub draws: u64,
-    pub most_draws: u32,
+    pub most_new_pairs: usize,
     pub most_falls: u32,
+    /// Changes that passed words over, and the most words passed over in one.
+    pub passing: u64,
+    pub most_passed: u64,
+    /// Changes of walks that were made with fewer words than n div 2, and those
+    /// that ran out of words after a draw.
+    pub made_with_few: u64,
+    pub ran_out_later: u64,
     /// New pairs standing at each level after their change.
     pub standing: [u64; 4],
     /// Changes of walks that come out otherwise with the lowest number first.
@@ -43,13 +53,17 @@ pub struct Tally {
 }
 
 impl Tally {
-    /// A change that was asked for.
-    pub fn note(&mut self, answer: &Answer) {
+    /// A change that was asked for, and how many new pairs it has.
+    pub fn note(&mut self, answer: &Answer, new_pairs: usize) {
         self.changes += 1;
         self.numbers[answer.number as usize] += 1;
-        self.draws += u64::from(answer.draws);
-        self.most_draws = self.most_draws.max(answer.draws);
+        self.draws += answer.draws;
+        self.most_new_pairs = self.most_new_pairs.max(new_pairs);
         self.most_falls = self.most_falls.max(answer.falls);
+        // Each new pair uses one word that chooses.
+        let passed = answer.draws - new_pairs as u64;
+        self.passing += u64::from(passed > 0);
+        self.most_passed = self.most_passed.max(passed);
     }
 
     /// One line about the changes tried since an earlier tally, or an error if
@@ -72,7 +86,19 @@ impl Tally {
     pub fn walked_since(&self, earlier: &Tally, numbers: &[usize]) -> Verdict {
         let tried = self.since(earlier, numbers)?;
         let decided = self.decided - earlier.decided;
-        Ok(format!("{tried}, {decided} decided by the order,"))
+        let passing = self.passing - earlier.passing;
+        Ok(format!(
+            "{tried}, {decided} decided by the order, {passing} passed words over,"
+        ))
+    }
+
+    /// An error unless all that walks are to meet was met.
+    fn walks_met_all(&self) -> Result<(), String> {
+        came("a new pair at level", &self.standing, &[0, 1, 2, 3])?;
+        holds("the order decides some changes", self.decided > 0)?;
+        holds("some changes pass many words over", self.most_passed > 9)?;
+        holds("some are made with few words", self.made_with_few > 0)?;
+        holds("some run out of words later", self.ran_out_later > 0)
     }
 }
 
@@ -104,11 +130,15 @@ pub fn holds(what: &str, yes: bool) -> Result<(), String> {
 pub fn all(print: &mut dyn FnMut(&str)) -> Result<Tally, String> {
     let mut tally = Tally::default();
     type Check = fn(&mut Tally) -> Verdict;
-    let checks: [Check; 17] = [
+    let checks: [Check; 21] = [
         bench::worked_example,
         bench::bench_cases,
         cases::hand_worked,
         order::first_served,
+        fair::hand_worked,
+        fair::refused_by_12,
+        stars::every_place,
+        stars::every_star,
         fans::fans,
         refusals::calls_turned_back,
         refusals::changes_turned_back,
@@ -127,7 +157,6 @@ pub fn all(print: &mut dyn FnMut(&str)) -> Result<Tally, String> {
         let line = check(&mut tally)?;
         print(&line);
     }
-    came("a new pair at level", &tally.standing, &[0, 1, 2, 3])?;
-    holds("the order decides some changes", tally.decided > 0)?;
+    tally.walks_met_all()?;
     Ok(tally)
 }

@@ -50,7 +50,7 @@ fn longest_waiting() -> Case {
         ),
         change: (2, 2, 3),
         words: vec![0, 0, 1],
-        draws: vec![(5, 0), (2, 4), (1, 3)],
+        new_pairs: vec![(5, 0), (2, 4), (1, 3)],
         falls: 5,
         after: drawn(
             6,
@@ -69,7 +69,7 @@ fn lower_end_of_a_drop() -> Case {
         rack: drawn(3, &[(0, 1, 0)], &[(0, 1), (0, 2), (1, 2)]),
         change: (2, 1, 0),
         words: vec![0],
-        draws: vec![(0, 2)],
+        new_pairs: vec![(0, 2)],
         falls: 1,
         after: drawn(3, &[(0, 2, 0)], &[(0, 2), (2, 1)]),
     }
@@ -88,7 +88,7 @@ fn mates_of_an_add() -> Case {
         rack: drawn(5, &[(1, 2, 0), (3, 4, 0)], &before),
         change: (1, 1, 3),
         words: vec![1, 3],
-        draws: vec![(3, 1), (4, 0)],
+        new_pairs: vec![(3, 1), (4, 0)],
         falls: 1,
         after: drawn(
             5,
@@ -112,7 +112,7 @@ fn mates_of_a_fall() -> Case {
         rack: drawn(6, &pairs, &[&loose[..], &[(0, 5), (3, 1), (2, 4)]].concat()),
         change: (2, 0, 5),
         words: vec![4, 3, 2],
-        draws: vec![(2, 1), (4, 0)],
+        new_pairs: vec![(2, 1), (4, 0)],
         falls: 5,
         after: drawn(
             6,
@@ -139,7 +139,7 @@ fn fallen_before_risers() -> Case {
         ),
         change: (2, 2, 0),
         words: vec![3, 3],
-        draws: vec![(4, 3), (1, 2)],
+        new_pairs: vec![(4, 3), (1, 2)],
         falls: 4,
         after: drawn(
             5,
@@ -166,7 +166,7 @@ fn fallen_at_the_end() -> Case {
         ),
         change: (2, 0, 2),
         words: vec![0, 4, 2],
-        draws: vec![(0, 1), (5, 3)],
+        new_pairs: vec![(0, 1), (5, 3)],
         falls: 2,
         after: drawn(
             6,
@@ -186,7 +186,7 @@ fn drawn_waits_no_more() -> Case {
         rack: drawn(5, &[(0, 3, 0)], &[(0, 3), (3, 1), (3, 2)]),
         change: (1, 4, 3),
         words: vec![0, 3],
-        draws: vec![(3, 0)],
+        new_pairs: vec![(3, 0)],
         falls: 0,
         after: drawn(5, &[(0, 3, 1)], &[(3, 0), (3, 1), (3, 2), (3, 4)]),
     }
@@ -208,7 +208,7 @@ fn risen_waits_no_more() -> Case {
         ),
         change: (2, 1, 4),
         words: vec![0, 1, 0],
-        draws: vec![(3, 0), (5, 2)],
+        new_pairs: vec![(3, 0), (5, 2)],
         falls: 4,
         after: drawn(
             7,

@@ -43,16 +43,37 @@ impl Random {
         }
     }
 
-    /// A draw word: mostly any, at times small, at times the highest.
+    /// A draw word: mostly any, at times small.
     pub fn word(&mut self) -> u32 {
-        match self.below(8) {
-            0 | 1 => self.below(6) as u32,
-            2 => u32::MAX,
+        match self.below(4) {
+            0 => self.below(6) as u32,
             _ => self.bits() as u32,
         }
     }
 
-    pub fn words(&mut self, length: usize) -> Vec<u32> {
-        (0..length).map(|_| self.word()).collect()
+    /// One of the highest words, which are those passed over.
+    pub fn high_word(&mut self) -> u32 {
+        let most = self.pick(&[1, 1, 4, 16, 256]);
+        u32::MAX - self.below(most) as u32
+    }
+
+    /// Words for a change of n boards: mostly at least as many as there may be new
+    /// pairs, at times few or none; and mostly none of the highest, at times some of
+    /// them or only those.
+    pub fn words_for(&mut self, n: usize) -> Vec<u32> {
+        let half = n / 2;
+        let length = match self.below(20) {
+            0 => self.below(3),
+            1 => self.below(half + 1),
+            2..=4 => half + self.below(n + 12),
+            _ => half + self.below(3),
+        };
+        let high = self.pick(&[0, 0, 0, 0, 5, 30, 60, 100, 100]);
+        let mut words = Vec::new();
+        for _ in 0..length {
+            let one = self.percent(high);
+            words.push(if one { self.high_word() } else { self.word() });
+        }
+        words
     }
 }

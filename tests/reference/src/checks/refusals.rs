@@ -3,9 +3,10 @@
 
 use super::bench::text_of_length;
 use super::book::Book;
+use super::shortage::runs_out;
 use super::{came, holds, same, Tally, Verdict};
-use crate::{audit, change, level, linked, make, mate, roster, run};
-use crate::{Answer, Outcome, RACK_BYTES, RECORD_SPACE, TEXT_LIMIT};
+use crate::{audit, change, change_with_pairs, level, linked, make, mate, roster, run};
+use crate::{Answer, Outcome, Rack, RACK_BYTES, RECORD_SPACE, TEXT_LIMIT};
 
 /// Among them the length of document 01, which was the right one before the
 /// rosters.
@@ -143,14 +144,16 @@ fn mixtures(
     (code, a, b): (u32, u32, u32),
     tally: &mut Tally,
 ) -> Result<(), String> {
-    for words in [&[][..], &[3], &[3, 4], &[3, 4, 5]] {
+    let opened = Rack::from_bytes(buffer);
+    for words in [&[][..], &[3], &[3, 4], &[u32::MAX; 3]] {
         let told = format!("code {code}, boards {a} {b}, words {words:?}");
         let mut rack = buffer.to_vec();
-        let answer = change(&mut rack, code, a, b, words);
-        tally.note(&answer);
+        let (answer, new_pairs) = change_with_pairs(&mut rack, code, a, b, words);
+        tally.note(&answer, new_pairs.len());
+        let short = || runs_out(opened.as_ref()?, (code, a, b), words);
         let number = fixed.unwrap_or_else(|| {
             let book = Book::open(buffer);
-            book.number_of(code, a, b, words.len())
+            book.number_of(code, a, b, || short().is_some())
         });
         same(&told, answer.number, number)?;
         if number != 0 {

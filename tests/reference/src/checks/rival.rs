@@ -8,7 +8,7 @@ use crate::{Answer, Rack};
 /// Whether the order can decide a change that answered this: of two boards that
 /// wait at the highest level, each draws or falls.
 pub fn order_may_decide(answer: &Answer) -> bool {
-    answer.draws + answer.falls >= 2
+    answer.draws + u64::from(answer.falls) >= 2
 }
 
 /// Whether a change, which answered this and left this rack, comes out otherwise

@@ -26,7 +26,7 @@ pub fn every_small_rack(tally: &mut Tally) -> Verdict {
         1 + one_pair(6, 2) + two_pairs,
     ];
     same("sound racks of 1, 2, 3, 4 boards", &racks, &all)?;
-    let tried = tally.since(&earlier, &[0, 9, 10, 11])?;
+    let tried = tally.since(&earlier, &[0, 9, 10, 11, 12])?;
     Ok(format!(
         "all {racks:?} sound racks of 1, 2, 3, 4 boards, every change ({tried}): ok"
     ))
@@ -97,21 +97,20 @@ fn all_changes(walk: &Walk, tally: &mut Tally) -> Result<(), String> {
 }
 
 /// One change with words for each place: of at most three neighbours the words
-/// 0, 1 and 2 give all places. Words that the change doesn't use stay 0.
+/// 0, 1 and 2 give all places, and none of them is passed over. A list that the
+/// change runs out of is tried again with one word more, so that no list has a
+/// word that isn't used.
 fn each_place(walk: &Walk, code: u32, a: u32, b: u32, tally: &mut Tally) -> Result<(), String> {
-    let length = (walk.book.n / 2) as usize;
     let mut open: Vec<Vec<u32>> = vec![Vec::new()];
-    while let Some(start) = open.pop() {
-        let mut words = start.clone();
-        words.resize(length, 0);
+    while let Some(words) = open.pop() {
         let answer = walk.clone().change(code, a, b, &words, tally)?;
-        // Words after the start that were used: give them their other places.
-        for place in start.len()..answer.draws as usize {
-            for word in 1..3 {
-                let mut other = words[..place].to_vec();
-                other.push(word);
-                open.push(other);
-            }
+        let used = if answer.number == 0 { words.len() } else { 0 };
+        same("draws", answer.draws as usize, used)?;
+        if answer.number == 12 {
+            let most = walk.book.n as usize / 2;
+            holds("n div 2 words suffice", words.len() < most)?;
+            let longer = |word: u32| [&words[..], &[word]].concat();
+            open.extend([0, 1, 2].map(longer));
         }
     }
     Ok(())

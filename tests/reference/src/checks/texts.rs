@@ -72,10 +72,17 @@ const NOT_FURTHER: [&str; 36] = [
 
 /// Lines that fit, with the record line that they get after 0-1 was added to a
 /// rack of four boards.
-const FITTING: [(&str, &str); 9] = [
+const FITTING: [(&str, &str); 10] = [
     ("(add (0 1) (draws))", "(refused 10)"),
-    ("(add (1 2) (draws))", "(refused 12)"),
-    ("(add (1 2) (draws 4294967295))", "(refused 12)"),
+    ("(add (2 3) (draws))", "(refused 12)"),
+    (
+        "(add (1 2) (draws))",
+        "(done (draws 0) (falls 0) (pairs 1))",
+    ),
+    (
+        "(add (2 3) (draws 4294967295))",
+        "(done (draws 1) (falls 0) (pairs 2))",
+    ),
     ("(add (4294967295 4294967295) (draws))", "(refused 8)"),
     ("(drop (3 3) (draws))", "(refused 9)"),
     ("(drop (2 3) (draws 0 0))", "(refused 11)"),
@@ -112,7 +119,7 @@ pub fn damaged_lines(_: &mut Tally) -> Verdict {
         expect_bad(text, 1)?;
         tried += 1;
     }
-    for number in [2, 3, 127, 128] {
+    for number in [1, 2, 3, 127, 128] {
         let text = format!("(rack (boards 4))\n{}\n", words(number));
         expect_fit(&text, "(done (draws 1) (falls 0) (pairs 1))")?;
     }

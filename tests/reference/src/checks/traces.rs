@@ -5,7 +5,7 @@ use super::random::Random;
 use super::texts::first_bad_line;
 use super::{came, holds, same, Tally, Verdict};
 use crate::image::owns;
-use crate::{change, level, make, mate, run, Outcome};
+use crate::{change_with_pairs, level, make, mate, run, Outcome};
 use crate::{RACK_BYTES, RECORD_SPACE, TEXT_LIMIT};
 
 const SEEDS: u64 = 6_000;
@@ -102,8 +102,9 @@ fn numbers(line: &str) -> Vec<u32> {
 fn told(rack: &mut [u8], line: &str, tally: &mut Tally) -> String {
     let numbers = numbers(line);
     let code = if line.contains("add") { 1 } else { 2 };
-    let answer = change(rack, code, numbers[0], numbers[1], &numbers[2..]);
-    tally.note(&answer);
+    let (a, b, words) = (numbers[0], numbers[1], &numbers[2..]);
+    let (answer, new_pairs) = change_with_pairs(rack, code, a, b, words);
+    tally.note(&answer, new_pairs.len());
     match answer.number {
         0 => format!(
             "(done (draws {}) (falls {}) (pairs {}))\n",
@@ -147,9 +148,8 @@ fn random_text(random: &mut Random) -> Vec<u8> {
     for _ in 0..random.between(0, 60) {
         let name = random.pick(&["add", "add", "add", "drop"]);
         let (a, b) = (random_board(random, n), random_board(random, n));
-        let enough = (n / 2).min(128);
-        let number = random.pick(&[enough, enough, enough, enough.max(1) - 1, 128]);
-        let words = random.words(number);
+        let mut words = random.words_for(n.min(256));
+        words.truncate(128);
         let words: String = words.iter().map(|word| format!(" {word}")).collect();
         let line = format!("({name} ({a} {b}) (draws{words}))\n");
         if text.len() + line.len() <= TEXT_LIMIT || random.percent(1) {

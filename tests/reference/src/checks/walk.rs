@@ -4,6 +4,7 @@
 use super::book::Book;
 use super::random::Random;
 use super::rival::{order_decides, order_may_decide};
+use super::shortage::runs_out;
 use super::{facts, holds, same, shape, Tally};
 use crate::{change, change_with_pairs, sound, Answer, Rack};
 use std::panic::{catch_unwind, AssertUnwindSafe};
@@ -61,7 +62,9 @@ impl Walk {
         tally: &mut Tally,
     ) -> Result<Answer, String> {
         let before = self.rack.clone();
-        let number = self.book.note(code, a, b, words.len());
+        let opened = Rack::from_bytes(&before).ok_or("the rack is not sound")?;
+        let short = || runs_out(&opened, (code, a, b), words);
+        let number = self.book.note(code, a, b, || short().is_some());
         let (answer, new_pairs) = self.call(code, a, b, words)?;
         same("number", answer.number, number)?;
         if number != 0 {
@@ -70,11 +73,14 @@ impl Walk {
             holds("a refused change writes nothing", self.rack == before)?;
         } else {
             self.look()?;
-            facts::of_answer(&self.rack, &self.book, &answer, &new_pairs)?;
+            facts::of_answer(&self.rack, &self.book, words, &answer, &new_pairs)?;
             self.look_at_start(&before, code, (a, b), words, &new_pairs)?;
-            let decided = self.decided(&before, (code, a, b), words, &answer)?;
+            let decided = self.decided(&opened, (code, a, b), words, &answer)?;
             tally.decided += u64::from(decided);
+            tally.made_with_few += u64::from(words.len() < opened.n / 2);
         }
+        let later = number == 12 && short() > Some(0);
+        tally.ran_out_later += u64::from(later);
         self.count(tally, &answer, &new_pairs);
         Ok(answer)
     }
@@ -105,14 +111,13 @@ impl Walk {
         words: &[u32],
         new_pairs: &[(u32, u32)],
     ) -> Result<(), String> {
-        let word = words.first().copied().unwrap_or(0);
         let came = new_pairs.first().copied();
         if code == 2 && facts::mate(before, a) == b {
-            let first = facts::first_of_drop(before, &self.book, a, b, word);
+            let first = facts::first_of_drop(before, &self.book, (a, b), words);
             return holds("first new pair", first.is_none() || first == came);
         }
         if code == 1 {
-            let first = facts::first_of_add(before, &self.book, a, b, word);
+            let first = facts::first_of_add(before, &self.book, (a, b), words);
             same("first new pair", came, first)?;
             if first.is_some() {
                 return Ok(());
@@ -126,7 +131,7 @@ impl Walk {
     /// Whether the order decides what the last change came to.
     fn decided(
         &self,
-        before: &[u8],
+        before: &Rack,
         change: (u32, u32, u32),
         words: &[u32],
         answer: &Answer,
@@ -134,13 +139,12 @@ impl Walk {
         if !order_may_decide(answer) {
             return Ok(false);
         }
-        let [before, after] = [before, &self.rack].map(Rack::from_bytes);
-        let (before, after) = before.zip(after).ok_or("a rack is not sound")?;
-        Ok(order_decides(&before, change, words, answer, &after))
+        let after = Rack::from_bytes(&self.rack).ok_or("the rack is not sound")?;
+        Ok(order_decides(before, change, words, answer, &after))
     }
 
     fn count(&self, tally: &mut Tally, answer: &Answer, new_pairs: &[(u32, u32)]) {
-        tally.note(answer);
+        tally.note(answer, new_pairs.len());
         for &(u, y) in new_pairs {
             let level = usize::from(self.rack[8 + u as usize]);
             if facts::mate(&self.rack, u) == y {
@@ -158,38 +162,42 @@ impl Walk {
         hubs: usize,
         tally: &mut Tally,
     ) -> Result<Answer, String> {
-        let n = self.book.n as usize;
         let (code, a, b) = self.pick(random, adds, hubs);
-        let spare = random.below(3);
-        let mut words = random.words(n / 2 + spare);
-        if random.percent(1) && n > 1 {
-            words.truncate(n / 2 - 1);
-        }
+        let words = random.words_for(self.book.n as usize);
         let before = self.rack.clone();
         let answer = self.change(code, a, b, &words, tally)?;
         if answer.number == 0 && random.percent(10) {
-            self.look_at_spare_words(random, before, (code, a, b), &words, &answer)?;
+            let used = &words[..answer.draws as usize];
+            self.look_at_lists(random, before, (code, a, b), used, &answer)
+                .map_err(|why| self.told("again", &why))?;
         }
         Ok(answer)
     }
 
-    /// "Words beyond them are ignored."
-    fn look_at_spare_words(
+    /// The same change with the words that it used and other words after them, or
+    /// none: "Words beyond them are ignored." Without the last word that it used it
+    /// gets 12, and "the rack keeps its bytes" (document 02, W-206).
+    fn look_at_lists(
         &self,
         random: &mut Random,
         mut before: Vec<u8>,
         (code, a, b): (u32, u32, u32),
-        words: &[u32],
+        used: &[u32],
         answer: &Answer,
     ) -> Result<(), String> {
-        let mut other = words.to_vec();
-        for word in &mut other[answer.draws as usize..] {
-            *word = random.word();
+        if let Some((_, fewer)) = used.split_last() {
+            let mut rack = before.clone();
+            let short = change(&mut rack, code, a, b, fewer);
+            same("one word fewer", short, Answer::refused(12))?;
+            holds("a refused change writes nothing", rack == before)?;
         }
-        other.truncate(self.book.n as usize / 2);
+        let mut other = used.to_vec();
+        for _ in 0..random.pick(&[0, 1, 4]) {
+            other.push(random.word());
+        }
         let again = change(&mut before, code, a, b, &other);
-        let same = again == *answer && before == self.rack;
-        holds("other spare words give the same", same).map_err(|why| self.told("again", &why))
+        same("other spare words", again, *answer)?;
+        holds("other spare words: bytes", before == self.rack)
     }
 
     fn pick(&self, random: &mut Random, adds: usize, hubs: usize) -> (u32, u32, u32) {

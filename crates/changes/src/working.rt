@@ -1,0 +1,106 @@
+// What is left to do of a change that draws: it is carried out only if its words suffice.
+ghost use mathlib.Core.Path.{_≡_};
+ghost use mathlib.Core.Logic.{_≢_};
+ghost use Prim.Native.Nat.{_<_};
+ghost use lib.ListN.{length};
+ghost use Rattle.model.specs.Shape.{low};
+ghost use Rattle.model.specs.State.{base};
+ghost use Rattle.model.specs.Bytes.{read};
+ghost use Rattle.model.specs.Moves.{promote as promoted, settle as settled};
+ghost use Rattle.model.specs.Change.{start, startParted};
+ghost use Rattle.moves.specs.Proper.{Held};
+ghost use Rattle.changes.specs.Sounded.{Begun, Liftable, Ended};
+ghost use Rattle.changes.specs.Working.{Workable, workRun, Tried, Enough, Sufficing};
+use settling::tally::Tally;
+
+// What is left to do of a change that draws: "The riser's pair, if any, is parted; it rises, it draws, the settling follows.", or the edge of a pair
+// is dropped: "part them and settle".
+pub enum Work {
+    Rise { i: usize, u: usize },
+    Part { a: usize, b: usize },
+}
+
+// "The riser's pair, if any, is parted; it rises, it draws, the settling follows."
+fn promote_and_settle(rack: &mut [u8], u: usize, i: usize, words: &[u32]) -> Tally
+    requires { ⌜ Begun low (now rack) ⌝ }
+    requires { ⌜ Liftable (read low (now rack)) i u ⌝ }
+    ensures { λ r. ⌜ Ended (settled base (now (words .entry)) (promoted (now (words .entry)) i u (start (read low (now (rack .entry)))))) (now (rack .exit)) r ⌝ }
+{
+    let mut queue = layout::places();
+    let t = settling::promote(rack, &mut queue, words, u, i, Tally::new());
+    settling::settle(rack, &mut queue, words, t)
+}
+
+// "part them and settle": a's mate is b. "Parting by a drop puts the lower number first.", which is a.
+fn part_and_settle(rack: &mut [u8], a: usize, b: usize, words: &[u32]) -> Tally
+    requires { ⌜ Begun low (now rack) ⌝ }
+    requires { ⌜ (a < read low (now rack) .n) × (b < read low (now rack) .n) × (a ≢ b) × (read low (now rack) .mate a ≡ b) ⌝ }
+    ensures { λ r. ⌜ Ended (settled base (now (words .entry)) (startParted a b (read low (now (rack .entry))))) (now (rack .exit)) r ⌝ }
+{
+    let mut queue = layout::places();
+    let first = settling::join(&mut queue, a, Tally::new());
+    let both = settling::join(&mut queue, b, first);
+    moves::part(rack, a);
+    settling::settle(rack, &mut queue, words, both)
+}
+
+// All that is left to do, whether the words suffice or not.
+fn carry_out(rack: &mut [u8], work: Work, words: &[u32]) -> Tally
+    requires { ⌜ Workable low (now rack) work ⌝ }
+    ensures { λ r. ⌜ Ended (workRun (now (words .entry)) work (read low (now (rack .entry)))) (now (rack .exit)) r ⌝ }
+{
+    match work {
+        Work::Rise { i, u } => promote_and_settle(rack, u, i, words),
+        Work::Part { a, b } => {
+            edges::drop_edge(rack, a, b);
+            part_and_settle(rack, a, b, words)
+        }
+    }
+}
+
+// Copies bytes over as many others.
+fn copy(from: &[u8], to: &mut [u8])
+    requires { ⌜ length (now from) ≡ length (now to) ⌝ }
+    ensures { λ _. ⌜ now (to .exit) ≡ now (from .entry) ⌝ }
+{
+    bytes::copy(from, to);
+}
+
+// It is done, and the bytes from before are put back if more words were used than are lent.
+fn try_out(rack: &mut [u8], work: Work, words: &[u32]) -> Tally
+    requires { ⌜ Workable low (now rack) work ⌝ }
+    ensures { λ r. ⌜ Tried (workRun (now (words .entry)) work (read low (now (rack .entry)))) (now (words .entry)) (now (rack .entry)) (now (rack .exit)) r ⌝ }
+{
+    let mut kept = [0u8; layout::shape::RACK_BYTES];
+    copy(rack, &mut kept);
+    let t = carry_out(rack, work, words);
+    if (words.len() as u64) < t.draws {
+        copy(&kept, rack);
+    }
+    t
+}
+
+// Whether the words are sure to suffice: no change has more new pairs than half the boards, nor more than links.
+fn enough(rack: &[u8], words: &[u32]) -> bool
+    requires { ⌜ Held low (now rack) ⌝ }
+    ensures { λ r. ⌜ Enough r (read low (now (rack .entry))) (now (words .entry)) ⌝ }
+{
+    let half = layout::size(rack) / 2;
+    let edges = layout::edges(rack) as usize;
+    if edges < half {
+        return drawing::sure(words, edges);
+    }
+    drawing::sure(words, half)
+}
+
+// "A change is carried out only if its words suffice, and otherwise the rack keeps its bytes.": words that are sure to suffice need no trial.
+pub fn within(rack: &mut [u8], work: Work, words: &[u32]) -> Tally
+    requires { ⌜ Workable low (now rack) work ⌝ }
+    requires { ⌜ Sufficing (now words) work (read low (now rack)) ⌝ }
+    ensures { λ r. ⌜ Tried (workRun (now (words .entry)) work (read low (now (rack .entry)))) (now (words .entry)) (now (rack .entry)) (now (rack .exit)) r ⌝ }
+{
+    if enough(rack, words) {
+        return carry_out(rack, work, words);
+    }
+    try_out(rack, work, words)
+}

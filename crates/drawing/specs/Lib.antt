@@ -1,0 +1,2 @@
+-- What the contracts say of lent words.
+pub mod Sure
