@@ -180,35 +180,35 @@ module _ {S : Shape} {bs₀ : List ℕ} {a b : ℕ} {bs : List ℕ} (x : Dropped
 
 -- ---- a drop, before its edge is taken out: whether it joins mates
 module _ {S : Shape} {bs : List ℕ} (ok : Sounded S bs) {a b : ℕ} (ends : (a < read S bs .n) × (b < read S bs .n) × (a ≢ b) × (edge (read S bs) a b ≡ true))
-    where
-  -- the entry of a's mate, once it is read
-  module _ {k : ℕ} (m : k ≡ mateAt S bs a) where
-    held : Held S bs
-    held = sounded-held bs ok
+  where
+    -- the entry of a's mate, once it is read
+    module _ {k : ℕ} (m : k ≡ mateAt S bs a) where
+      held : Held S bs
+      held = sounded-held bs ok
 
-    entry : k ≡ mateEntry (read S bs) a
-    entry = m ∙ held-mate held a (held-small held a (ends .0))
+      entry : k ≡ mateEntry (read S bs) a
+      entry = m ∙ held-mate held a (held-small held a (ends .0))
 
-    pub joins : k ≡ b → Joins (read S bs) a b
-    joins e = record {
-      ends = ends;
-      mates = entry-names (read S bs) a b (ends .2) (omega (arith, held-small held b (ends .1), ok .good .named)) (sym entry ∙ e);
-    }
+      pub joins : k ≡ b → Joins (read S bs) a b
+      joins e = record {
+        ends = ends;
+        mates = entry-names (read S bs) a b (ends .2) (omega (arith, held-small held b (ends .1), ok .good .named)) (sym entry ∙ e);
+      }
 
-    pub loose : k ≢ b → read S bs .mate a ≢ b
-    loose d = entry-not (read S bs) a b (ends .2) (λ e. d (entry ∙ e))
+      pub loose : k ≢ b → read S bs .mate a ≢ b
+      loose d = entry-not (read S bs) a b (ends .2) (λ e. d (entry ∙ e))
 
-  module _ (words : List ℕ) (j : Joins (read S bs) a b) where
-    pair-is : drop base words a b (read S bs) ≡ workRun words (Part a b) (read S bs)
-    unfolding drop
-    pair-is = rw (eqb-yes (read S bs .mate a) b (j .mates), drop) refl
+    module _ (words : List ℕ) (j : Joins (read S bs) a b) where
+      pair-is : drop base words a b (read S bs) ≡ workRun words (Part a b) (read S bs)
+      unfolding drop
+      pair-is = rw (eqb-yes (read S bs .mate a) b (j .mates), drop) refl
 
-    -- words that are sure to suffice
-    pub pair-enough : Enough true (read S bs) words → workRun words (Part a b) (read S bs) .draws ≤ length words
-    pair-enough q =
-        let few = drop-quick base base-pos (read S bs) (ok .valid) words a b (ends .0) (ends .1) (ends .2) q in
-        omega (arith, few, ap (λ (r : Run). r .draws) pair-is)
+      -- words that are sure to suffice
+      pub pair-enough : Enough true (read S bs) words → workRun words (Part a b) (read S bs) .draws ≤ length words
+      pair-enough q =
+          let few = drop-quick base base-pos (read S bs) (ok .valid) words a b (ends .0) (ends .1) (ends .2) q in
+          omega (arith, few, ap (λ (r : Run). r .draws) pair-is)
 
-    pub pair-tried : {bs′ : List ℕ} {t : Tally} → Tried (workRun words (Part a b) (read S bs)) words bs bs′ t
-        → Tried (drop base words a b (read S bs)) words bs bs′ t
-    pair-tried r = rw pair-is r
+      pub pair-tried : {bs′ : List ℕ} {t : Tally} → Tried (workRun words (Part a b) (read S bs)) words bs bs′ t
+          → Tried (drop base words a b (read S bs)) words bs bs′ t
+      pair-tried r = rw pair-is r

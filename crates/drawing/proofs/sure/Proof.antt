@@ -36,9 +36,9 @@ loop-again c =
     let l = c .before .before .before in
     let words = l .before .before .args .words .now in
     ⊎-elim
-        (λ w. large-next words _ (w .1))
-        (λ w. none-next words (omega arith) (l .loop .inv) (omega (arith, w .0 .left)) (w .1))
-        (c .if2 .came)
+    (λ w. large-next words _ (w .1))
+    (λ w. none-next words (omega arith) (l .loop .inv) (omega (arith, w .0 .left)) (w .1))
+    (c .if2 .came)
 
 returns-2 : tie.Need-returns-2 Inv-loop μ-loop
 returns-2 c =
