@@ -1,7 +1,7 @@
 /*
  * Empty slices: a length of 0 with a null pointer, or one to where nothing may be read or written. Each call is made so with each of its slices,
  * and with all at once; it must be turned back with the number that fits, every figure 0, and leave what else is lent as it was. Only a text of no
- * bytes is taken, if the rest that is lent is in order.
+ * bytes is taken, if the rest that is lent is in order, and no words for a change that draws nothing.
  */
 #include <inttypes.h>
 #include <stdio.h>
@@ -38,7 +38,7 @@ static void change(uint8_t *bytes, size_t len, const uint32_t *words, size_t cou
 {
     uint64_t draws = UINT64_MAX;
     uint32_t falls = UNWRITTEN, pairs = UNWRITTEN;
-    uint32_t number = pairing_change(bytes, len, PAIRING_DROP, 0, 1, words, count, &draws, &falls, &pairs);
+    uint32_t number = pairing_change(bytes, len, PAIRING_ADD, 2, 3, words, count, &draws, &falls, &pairs);
 
     same("draws", draws, 0);
     same("falls", falls, 0);
@@ -52,6 +52,20 @@ static void run(uint8_t *bytes, size_t len, const uint8_t *text, size_t text_len
 
     same("line", line, 0);
     refused(number, wanted, length);
+}
+
+/* No words for the drop of a pair with no other edge, which draws nothing: it is made. Then the rack is as it was again. */
+static void wordless(const uint32_t *words)
+{
+    uint64_t draws = UINT64_MAX;
+    uint32_t falls = UNWRITTEN, pairs = UNWRITTEN;
+
+    calls++;
+    same("number without words", pairing_change(rack, sizeof rack, PAIRING_DROP, 0, 1, words, 0, &draws, &falls, &pairs), PAIRING_OK);
+    same("its draws", draws, 0);
+    same("its falls", falls, 2);
+    same("its pairs", pairs, 0);
+    memcpy(rack, rack_before, sizeof rack);
 }
 
 /* The text of no bytes: its record, with the bytes past it and the rack as they were. */
@@ -92,6 +106,7 @@ static void with(void *any)
     change(any, 0, words, 2, PAIRING_BAD_LENGTH);
     change(rack, sizeof rack, any, 0, PAIRING_TOO_FEW_WORDS);
     change(any, 0, any, 0, PAIRING_BAD_LENGTH);
+    wordless(any);
     run(any, 0, text, sizeof text - 1, space, sizeof space, PAIRING_BAD_LENGTH);
     blank(any);
     run(rack, sizeof rack, any, 0, space, sizeof space - 1, PAIRING_SHORT_SPACE);

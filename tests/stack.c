@@ -55,8 +55,8 @@ static void expect_change(uint32_t its_code, uint32_t v, uint32_t w, uint32_t wa
     expect(call_change, wanted);
 }
 
-/* All edges among 256 vertices come in a scattered order; then the pair of each vertex goes, round after round, so that others fall and rise;
- * then one change for each number. */
+/* All edges among 256 vertices come in a scattered order; then the pair of each vertex goes, round after round, so that others fall and rise, every
+ * second time with fewer words than a change may need, so that the old bytes are kept aside; then one change for each number. */
 static void change(void)
 {
     static uint32_t lower[ALL_EDGES], upper[ALL_EDGES];
@@ -76,6 +76,7 @@ static void change(void)
     memcpy(densest, rack, sizeof rack);
     for (k = 0; k < 8 * MOST; k++) {
         v = k % MOST;
+        count = k % 2 ? MOST / 2 : MOST / 4;
         if (pairing_mate(rack, len, v, &w) == PAIRING_OK && w != PAIRING_FREE) {
             expect_change(PAIRING_DROP, v, w, PAIRING_OK);
             drawing += draws != 0;
@@ -90,8 +91,9 @@ static void change(void)
     expect_change(PAIRING_ADD, 0, 1, PAIRING_EDGE_PRESENT);
     expect_change(PAIRING_DROP, 0, 1, PAIRING_OK);
     expect_change(PAIRING_DROP, 0, 1, PAIRING_EDGE_ABSENT);
-    count--;
-    expect_change(PAIRING_ADD, 0, 1, PAIRING_TOO_FEW_WORDS);
+    count = 0;
+    pairing_mate(rack, len, 2, &w);
+    expect_change(PAIRING_DROP, 2, w, PAIRING_TOO_FEW_WORDS);
     rack[4] = 1;
     expect_change(PAIRING_ADD, 0, 1, PAIRING_UNSOUND);
     len--;
@@ -153,21 +155,22 @@ static void roster(void)
     expect(call_roster, PAIRING_BAD_LENGTH);
 }
 
-/* A trace text on so many vertices, as long as can be, in which edges among a few of them come and go. */
+/* A trace text on so many vertices, as long as can be, in which edges among a few of them come and go. Every second change has words for pairs among
+ * those few alone, which suffice but may be too few to be sure of. */
 static void write_trace(uint32_t vertices, uint32_t few)
 {
     static uint8_t present[MOST][MOST];
     char next[2 * MOST];
-    uint32_t v, w, k;
+    uint32_t v, w, k, line;
     int size;
 
     memset(present, 0, sizeof present);
     text_len = (size_t)sprintf(text, "(rack (boards %" PRIu32 "))\n", vertices);
-    for (;;) {
+    for (line = 0;; line++) {
         v = below(few - 1);
         w = v + 1 + below(few - 1 - v);
         size = sprintf(next, "(%s (%" PRIu32 " %" PRIu32 ") (draws", present[v][w] ? "drop" : "add", v, w);
-        for (k = 0; k < vertices / 2; k++)
+        for (k = 0; k < (line % 2 ? vertices : few) / 2; k++)
             size += sprintf(next + size, " %" PRIu32, below(10));
         size += sprintf(next + size, "))\n");
         if (text_len + (size_t)size > PAIRING_TEXT_LIMIT)
@@ -233,7 +236,7 @@ int main(void)
         void (*asked)(void);
         size_t limit;
     } parts[] = {
-        {"change", change, NULL, PAIRING_STACK_CALL},
+        {"change", change, NULL, PAIRING_STACK_CHANGE},
         {"make", make, NULL, PAIRING_STACK_CALL},
         {"audit", audit, NULL, PAIRING_STACK_CALL},
         {"level", query, call_level, PAIRING_STACK_CALL},

@@ -40,8 +40,9 @@ extern "C" {
  * The stack in bytes that a call needs beside its caller's own: most of it for the running of a trace text. Measured with a margin, and held to
  * by a test (tests/stack.c); no proof bounds it.
  */
-#define PAIRING_STACK_RUN 65536 /* pairing_run */
-#define PAIRING_STACK_CALL 8192 /* every other call */
+#define PAIRING_STACK_RUN 81920    /* pairing_run */
+#define PAIRING_STACK_CHANGE 20480 /* pairing_change, which may keep the rack's bytes aside */
+#define PAIRING_STACK_CALL 8192    /* every other call */
 
 /* The mate of a free vertex. */
 #define PAIRING_FREE 65535

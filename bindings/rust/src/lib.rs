@@ -25,9 +25,11 @@
 //!     assert_eq!(pairing::roster(&rack, -1).result()?, 2);
 //!     assert!(pairing::audit(&rack).result()?);
 //!
-//!     // The same edge again is refused, and no byte changes.
+//!     // The same edge again is refused, and no byte changes. So is one whose words run out.
 //!     let again = pairing::change(&mut rack, ADD, 1, 0, &[0, 0]);
 //!     assert_eq!(again.number, Number::EDGE_PRESENT);
+//!     let short = pairing::change(&mut rack, ADD, 2, 3, &[]);
+//!     assert_eq!(short.number, Number::TOO_FEW_WORDS);
 //!     Ok(())
 //! }
 //! ```
@@ -115,7 +117,11 @@ pub const RECORD_SPACE: usize = 65_536;
 
 /// The stack in bytes that [`run`] needs beside its caller's own; measured with a
 /// margin, and not proved.
-pub const STACK_RUN: usize = 65_536;
+pub const STACK_RUN: usize = 81_920;
+
+/// The stack in bytes that [`change`] needs, which may keep the rack's bytes
+/// aside; likewise.
+pub const STACK_CHANGE: usize = 20_480;
 
 /// The stack in bytes that every other call needs, likewise.
 pub const STACK_CALL: usize = 8_192;

@@ -31,7 +31,7 @@ fn numbers() -> [(&'static str, Number); 13] {
 
 #[test]
 fn same_constants() {
-    let others = named![RACK_BYTES ROSTERS ROSTER_BYTES MOST_VERTICES TEXT_LIMIT RECORD_SPACE STACK_RUN STACK_CALL FREE
+    let others = named![RACK_BYTES ROSTERS ROSTER_BYTES MOST_VERTICES TEXT_LIMIT RECORD_SPACE STACK_RUN STACK_CHANGE STACK_CALL FREE
         ADD DROP];
     let numbers = numbers().map(|(name, number)| (name, number.0));
     let all: BTreeMap<&str, u32> = others.into_iter().chain(numbers).collect();
