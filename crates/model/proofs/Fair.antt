@@ -7,7 +7,7 @@ use mathlib.Core.List.{List, _∷_, _++_}
 use Prim.Native.Nat.{ℕ, zero, suc, _+_, _*_, _-_, _/_, _%_, _≤_, _<_}
 use native.Mathlib.Nat.{suc-mul, zero-mul, mod-eq-of-lt, div-mul-le-self, lt-div-mul-add, mul-div-cancel, mul-add-mod-self-right}
 use native.Mathlib.Omega.{arith}
-use lib.Dec.{T, eqb, ltb, ltb→lt, eqb→eq, eqb-refl}
+use lib.Dec.{eqb, ltb, ltb→lt, eqb→eq, eqb-refl}
 use lib.ListN.{length}
 use Rattle.model.specs.Counting.{count}
 use Rattle.model.specs.Words.{allWords, limit, chooses, place}

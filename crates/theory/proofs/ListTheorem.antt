@@ -12,7 +12,7 @@ use Rattle.model.specs.Sound.{sound}
 use Rattle.model.specs.Valid.{IsBytes}
 use Rattle.model.specs.Change.{Change, Changed, change, accepted, refused}
 use Rattle.model.specs.Calls.{sized, ChangedBytes, changeBytes}
-use Rattle.model.specs.Ledger.{Ledger, Told, tell, ledgerOf, ledgerNumber, entered, enteredAll}
+use Rattle.model.specs.Ledger.{Ledger, tell, ledgerOf, ledgerNumber, entered, enteredAll}
 use Rattle.model.proofs.Shapes.{low-good, low-room}
 use Rattle.model.proofs.Reading.{read-write}
 use Rattle.model.proofs.Bridge.{sound-valid}

@@ -8,7 +8,7 @@ use lib.Dec.{T, eqb, eqb→eq}
 use Rattle.model.specs.Counting.{sum, bit, count}
 use Rattle.model.specs.Shape.{Shape, GoodShape, low}
 use Rattle.model.specs.State.{base}
-use Rattle.model.specs.Bytes.{noMate, sizeAt, rankAt, mateAt, rosterAt}
+use Rattle.model.specs.Bytes.{sizeAt, rankAt, rosterAt}
 use Rattle.model.specs.Sound.{sound}
 use Rattle.model.specs.Valid.{IsBytes}
 use Rattle.model.specs.Change.{Change}

@@ -6,13 +6,13 @@ use mathlib.Core.Bool.{Bool, true, false}
 use mathlib.Core.List.{List, [], _++_}
 use Prim.Native.Nat.{ℕ, zero, suc, _+_, _≤_, _<_}
 use native.Mathlib.Omega.{arith}
-use lib.Dec.{T, ltb, le→leb, ltb→lt}
+use lib.Dec.{T, le→leb, ltb→lt}
 use lib.ListN.{length, take, drop, length-append, take-append-drop}
 use lib.Seq.{length-take-le}
 use Rattle.model.specs.State.{Rules, State, edge}
 use Rattle.model.specs.Moves.{Run}
 use Rattle.model.specs.Change.{Change, Changed, lower, upper, early, number, done, accepted, runsOut, refused, change}
-use Rattle.model.proofs.Tests.{eq?, le?, true-T, eqb-yes, eqb-no, leb-no}
+use Rattle.model.proofs.Tests.{eq?, true-T, eqb-yes, eqb-no, leb-no}
 use Rattle.theory.proofs.Numbers.{number-early, number-told}
 use Rattle.theory.proofs.ChangeStep.{enough}
 use Rattle.theory.proofs.Beyond.{Agree, add-agree, drop-agree}
