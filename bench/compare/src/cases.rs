@@ -127,6 +127,18 @@ impl Parted {
             words,
         }
     }
+
+    /// The drops that draw, and how many words each of them uses.
+    pub fn drawing(self) -> (Parted, Vec<usize>) {
+        let Parted { racks, words } = self;
+        let used = |(rack, change): (RackBytes, Change)| {
+            let Change { code, a, b, .. } = change;
+            let draws = tuned::change_sound(&mut rack.clone(), code, a, b, &words).draws;
+            (draws > 0).then_some(((rack, change), draws as usize))
+        };
+        let (racks, used) = racks.into_iter().filter_map(used).unzip();
+        (Parted { racks, words }, used)
+    }
 }
 
 /// The mate of a vertex, 65,535 if it is free.

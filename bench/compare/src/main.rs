@@ -5,12 +5,13 @@
 //! counts instructions, and prints how many calls, or changes of runs, that
 //! was. SIDE is core, tuned or bare (tuned without the audit before a change or
 //! a roster query); KIND is audit, roster (the query for the number of boards at
-//! a level) or parted (the drop of a pair; SIZE: links of 256 boards), half or
-//! full (the drop of a pair where half of all links are, or all of them),
-//! half-audit or full-audit (the audits of the racks of these), direct, before
-//! (the audits of the racks of direct), series, or a kind of text to run: run,
-//! refused, words or line (SIZE: boards). With the feature apart the rises of
-//! the tuned program stand apart from its takings.
+//! a level) or parted (the drop of a pair; SIZE: links of 256 boards), drawn,
+//! tried or short (the drop of a pair that draws, with all words, just those that
+//! it uses, or none; SIZE the same), half or full (the drop of a pair where half of
+//! all links are, or all of them), half-audit or full-audit (the audits of the racks
+//! of these), direct, before (the audits of the racks of direct), series, or a kind
+//! of text to run: run, pairs, refused, words or line (SIZE: boards). With the
+//! feature apart the rises of the tuned program stand apart from its takings.
 
 mod cases;
 mod once;

@@ -11,8 +11,8 @@ use std::hint::black_box;
 use tuned::{RackBytes, RACK_BYTES, RECORD_SPACE};
 
 /// Makes the calls and gives how many calls, or changes of runs, they were.
-/// The size is the edges of a rack of 256 vertices for "audit", "roster" and
-/// "parted", or else the vertices.
+/// The size is the edges of a rack of 256 vertices for "audit", "roster", "parted",
+/// "drawn", "tried" and "short", or else the vertices.
 pub fn once(side: Side, kind: &str, size: usize, calls: usize) -> Result<usize, String> {
     match kind {
         "audit" | "half-audit" | "full-audit" => {
@@ -23,6 +23,7 @@ pub fn once(side: Side, kind: &str, size: usize, calls: usize) -> Result<usize, 
         "direct" => direct(side, size, calls),
         "before" => before(side, size, calls),
         "parted" | "half" | "full" => parted(side, sized(kind, size), calls),
+        "drawn" | "tried" | "short" => drawn(side, kind, size, calls),
         "series" => series(side, size, calls),
         _ => match Text::of(kind, size) {
             Some(text) => Ok(runs(side, &text, calls)),
@@ -108,6 +109,33 @@ fn parted(side: Side, size: Size, calls: usize) -> Result<usize, String> {
     measured(|| {
         for (rack, change) in &mut racks[..calls] {
             black_box(side.change(rack, change, &words));
+        }
+    });
+    Ok(calls)
+}
+
+/// Drops of pairs that draw, on a rack of 256 vertices with so many edges: "drawn"
+/// has all words, "tried" just those that it uses, and "short" none, which is 12.
+#[inline(never)]
+fn drawn(side: Side, kind: &str, edges: usize, calls: usize) -> Result<usize, String> {
+    let (Parted { mut racks, words }, used) = Parted::of(Size::of_256(edges)).drawing();
+    if calls > racks.len() {
+        return Err(format!("at most {} drops", racks.len()));
+    }
+    let lent = |used: usize| match kind {
+        "drawn" => &words[..],
+        "tried" => &words[..used],
+        _ => &[],
+    };
+    let lists: Vec<&[u32]> = used.into_iter().map(lent).collect();
+    let wanted = if kind == "short" { 12 } else { 0 };
+    for ((rack, change), words) in racks.iter().zip(&lists) {
+        let number = side.change(&mut rack.clone(), change, words).0;
+        assert_eq!(number, wanted, "the number of a change");
+    }
+    measured(|| {
+        for ((rack, change), words) in racks[..calls].iter_mut().zip(&lists) {
+            black_box(side.change(rack, change, words));
         }
     });
     Ok(calls)

@@ -28,7 +28,8 @@ impl Text {
     /// The text of a kind: "run" has accepted changes with words of one digit, as
     /// many as they may have new pairs; "refused" has four refused changes after each
     /// accepted one; "words" has accepted changes with 128 words of ten digits;
-    /// "line" has its first line alone.
+    /// "pairs" pairs and parts, with words as "run" has them; "line" has its first
+    /// line alone.
     pub fn of(kind: &str, n: usize) -> Option<Text> {
         let mut text = Text {
             bytes: format!("(rack (boards {n}))\n"),
@@ -38,6 +39,10 @@ impl Text {
             "run" => accepted,
             "refused" => mostly_refused,
             "words" => with_long_words,
+            "pairs" => {
+                while text.add(vec![pairing(n, text.changes)]) {}
+                return Some(text);
+            }
             "line" => {
                 text.changes = 1;
                 return Some(text);
@@ -81,6 +86,18 @@ fn line(code: u32, a: u32, b: u32, words: impl Iterator<Item = u32>) -> String {
 /// The words of a change, one digit each.
 fn short<'a>(series: &'a Series, change: &Change) -> impl Iterator<Item = u32> + Clone + 'a {
     series.words(change).iter().map(|word| word % 10)
+}
+
+/// The change at a place of "pairs": the vertices 2j and 2j + 1 are joined for each j,
+/// and then again and again each such pair is dropped and put back.
+fn pairing(n: usize, place: usize) -> String {
+    let pairs = n / 2;
+    let (code, pair) = match place.checked_sub(pairs) {
+        None => (1, place),
+        Some(later) => (2 - later as u32 % 2, later / 2 % pairs),
+    };
+    let a = 2 * pair as u32;
+    line(code, a, a + 1, std::iter::repeat_n(7, pairs))
 }
 
 fn accepted(series: &Series, change: &Change) -> Vec<String> {
