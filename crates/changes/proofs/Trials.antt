@@ -47,3 +47,7 @@ sure-enough s words h true few b q = record {
   small = λ j k l p m. true-T (sure _ k p (omega arith) (q .1 j l));
 }
 sure-enough s words h false few b q = tt
+
+-- the answer was yes
+pub enough-yes : (s : State) (words : List ℕ) {yes : Bool} → yes ≡ true → Enough yes s words → Enough true s words
+enough-yes s words e q = subst (λ (x : Bool). Enough x s words) e q

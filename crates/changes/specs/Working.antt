@@ -43,7 +43,3 @@ pub record Tried (r : Run) (words bs bs′ : List ℕ) (t : Tally) : Type 0 wher
 abbrev pub Enough : Bool → State → List ℕ → Type 0
 Enough true s words = Quick (s .n) (edges s) words
 Enough false s words = Unit
-
--- where they are sure to suffice, it uses no more words than are lent
-abbrev pub Sufficing : List ℕ → Work → State → Type 0
-Sufficing words w s = Enough true s words → workRun words w s .draws ≤ length words

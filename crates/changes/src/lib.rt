@@ -104,7 +104,7 @@ fn number(rack: &[u8], code: u32, a: u32, b: u32) -> u32
     link_number(code, there)
 }
 
-// An add of an edge that is not there: a is the lower number. If its words run out, the edge is taken out again.
+// An add of an edge that is not there: a is the lower number. Words that are sure to suffice need no trial. If they run out, the edge is taken out again.
 fn add(rack: &mut [u8], a: usize, b: usize, words: &[u32]) -> Tally
     requires { ⌜ Sounded low (now rack) ⌝ }
     requires { ⌜ (a < read low (now rack) .n) × (b < read low (now rack) .n) × (a ≢ b) × (edge (read low (now rack)) a b ≡ false) ⌝ }
@@ -114,7 +114,10 @@ fn add(rack: &mut [u8], a: usize, b: usize, words: &[u32]) -> Tally
     let edges::Reached::At { i, u } = edges::riser(rack, a, b) else {
         return Tally::new();
     };
-    let t = working::within(rack, Work::Rise { i, u }, words);
+    if working::enough(rack, words) {
+        return working::promote_and_settle(rack, u, i, words);
+    }
+    let t = working::try_out(rack, Work::Rise { i, u }, words);
     if (words.len() as u64) < t.draws {
         edges::drop_edge(rack, a, b);
     }
@@ -127,11 +130,15 @@ fn drop(rack: &mut [u8], a: usize, b: usize, words: &[u32]) -> Tally
     requires { ⌜ (a < read low (now rack) .n) × (b < read low (now rack) .n) × (a ≢ b) × (edge (read low (now rack)) a b ≡ true) ⌝ }
     ensures { λ r. ⌜ Tried (dropped base (now (words .entry)) a b (read low (now (rack .entry)))) (now (words .entry)) (now (rack .entry)) (now (rack .exit)) r ⌝ }
 {
-    if layout::mate(rack, a) as usize == b {
-        return working::within(rack, Work::Part { a, b }, words);
+    if layout::mate(rack, a) as usize != b {
+        edges::drop_edge(rack, a, b);
+        return Tally::new();
     }
-    edges::drop_edge(rack, a, b);
-    Tally::new()
+    if working::enough(rack, words) {
+        edges::drop_edge(rack, a, b);
+        return working::part_and_settle(rack, a, b, words);
+    }
+    working::try_out(rack, Work::Part { a, b }, words)
 }
 
 // The lower number of two.

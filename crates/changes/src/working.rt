@@ -10,7 +10,7 @@ ghost use Rattle.model.specs.Moves.{promote as promoted, settle as settled};
 ghost use Rattle.model.specs.Change.{start, startParted};
 ghost use Rattle.moves.specs.Proper.{Held};
 ghost use Rattle.changes.specs.Sounded.{Begun, Liftable, Ended};
-ghost use Rattle.changes.specs.Working.{Workable, workRun, Tried, Enough, Sufficing};
+ghost use Rattle.changes.specs.Working.{Workable, workRun, Tried, Enough};
 use settling::tally::Tally;
 
 // What is left to do of a change that draws: "The riser's pair, if any, is parted; it rises, it draws, the settling follows.", or the edge of a pair
@@ -21,7 +21,7 @@ pub enum Work {
 }
 
 // "The riser's pair, if any, is parted; it rises, it draws, the settling follows."
-fn promote_and_settle(rack: &mut [u8], u: usize, i: usize, words: &[u32]) -> Tally
+pub fn promote_and_settle(rack: &mut [u8], u: usize, i: usize, words: &[u32]) -> Tally
     requires { ⌜ Begun low (now rack) ⌝ }
     requires { ⌜ Liftable (read low (now rack)) i u ⌝ }
     ensures { λ r. ⌜ Ended (settled base (now (words .entry)) (promoted (now (words .entry)) i u (start (read low (now (rack .entry)))))) (now (rack .exit)) r ⌝ }
@@ -32,7 +32,7 @@ fn promote_and_settle(rack: &mut [u8], u: usize, i: usize, words: &[u32]) -> Tal
 }
 
 // "part them and settle": a's mate is b. "Parting by a drop puts the lower number first.", which is a.
-fn part_and_settle(rack: &mut [u8], a: usize, b: usize, words: &[u32]) -> Tally
+pub fn part_and_settle(rack: &mut [u8], a: usize, b: usize, words: &[u32]) -> Tally
     requires { ⌜ Begun low (now rack) ⌝ }
     requires { ⌜ (a < read low (now rack) .n) × (b < read low (now rack) .n) × (a ≢ b) × (read low (now rack) .mate a ≡ b) ⌝ }
     ensures { λ r. ⌜ Ended (settled base (now (words .entry)) (startParted a b (read low (now (rack .entry))))) (now (rack .exit)) r ⌝ }
@@ -66,8 +66,9 @@ fn copy(from: &[u8], to: &mut [u8])
     bytes::copy(from, to);
 }
 
-// It is done, and the bytes from before are put back if more words were used than are lent.
-fn try_out(rack: &mut [u8], work: Work, words: &[u32]) -> Tally
+// "A change is carried out only if its words suffice, and otherwise the rack keeps its bytes.": all of it is done, and the bytes from before are put
+// back if more words were used than are lent.
+pub fn try_out(rack: &mut [u8], work: Work, words: &[u32]) -> Tally
     requires { ⌜ Workable low (now rack) work ⌝ }
     ensures { λ r. ⌜ Tried (workRun (now (words .entry)) work (read low (now (rack .entry)))) (now (words .entry)) (now (rack .entry)) (now (rack .exit)) r ⌝ }
 {
@@ -81,7 +82,7 @@ fn try_out(rack: &mut [u8], work: Work, words: &[u32]) -> Tally
 }
 
 // Whether the words are sure to suffice: no change has more new pairs than half the boards, nor more than links.
-fn enough(rack: &[u8], words: &[u32]) -> bool
+pub fn enough(rack: &[u8], words: &[u32]) -> bool
     requires { ⌜ Held low (now rack) ⌝ }
     ensures { λ r. ⌜ Enough r (read low (now (rack .entry))) (now (words .entry)) ⌝ }
 {
@@ -91,16 +92,4 @@ fn enough(rack: &[u8], words: &[u32]) -> bool
         return drawing::sure(words, edges);
     }
     drawing::sure(words, half)
-}
-
-// "A change is carried out only if its words suffice, and otherwise the rack keeps its bytes.": words that are sure to suffice need no trial.
-pub fn within(rack: &mut [u8], work: Work, words: &[u32]) -> Tally
-    requires { ⌜ Workable low (now rack) work ⌝ }
-    requires { ⌜ Sufficing (now words) work (read low (now rack)) ⌝ }
-    ensures { λ r. ⌜ Tried (workRun (now (words .entry)) work (read low (now (rack .entry)))) (now (words .entry)) (now (rack .entry)) (now (rack .exit)) r ⌝ }
-{
-    if enough(rack, words) {
-        return carry_out(rack, work, words);
-    }
-    try_out(rack, work, words)
 }

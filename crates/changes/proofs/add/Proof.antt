@@ -1,7 +1,8 @@
 -- `changes::add` meets its contract. Assumes nothing.
 use mathlib.Core.Path.{_≡_, sym, ap, _∙_}
-use Prim.Native.Nat.{suc}
+use Prim.Native.Nat.{suc, _≤_}
 use native.Mathlib.Omega.{arith}
+use lib.ListN.{length}
 use Rattle.model.specs.Shape.{low}
 use Rattle.model.specs.State.{base}
 use Rattle.model.specs.Bytes.{read}
@@ -20,6 +21,7 @@ use Rattle.changes.proofs.Wholes.{
   added-made,
   added-back,
 }
+use Rattle.changes.proofs.Trials.{enough-yes, tried-made}
 use borrow.Author.Needs.{needs}
 use Rattle.changes.proofs.add.Statement.{statement}
 use Rattle.changes.proofs.add.Tie as tie
@@ -70,40 +72,67 @@ returns c =
     let r = c .before .before .before in
     added-none (added (edged r)) _ (sym (r .riser .ensures) ∙ ap reachedBy (c .before .enum-told .given .1)) (c .new .ensures)
 
-within-requires : tie.Need-within-requires
-within-requires c κs =
-    let f = c .before .before in
-    let e = edged (searched f) in
-    let x = added e in
-    ((added-begun x, added-riser x (reached f)), added-enough x (reached f) (begin e .args .words .now))
+-- where the words are looked at
+abbrev rises : tie.After-enough → tie.After-i
+rises c = c .before .before .before
 
--- what is tried, and that it is made, or the edge is taken out again
-abbrev rose : tie.After-within → tie.After-i
-rose c = c .before .before .before
+enough-requires : tie.Need-enough-requires
+enough-requires c κs = added-begun (added (edged (searched (c .before .before)))) .held
 
-drop-edge-requires : tie.Need-drop-edge-requires
-drop-edge-requires c κs =
-    let w = c .before .before .before .before .before in
-    added-drops (added (edged (searched (rose w)))) (w .within .ensures .kept (omega (arith, c .before .if1 .taken)))
+promote-and-settle-requires : tie.Need-promote-and-settle-requires
+promote-and-settle-requires c κs =
+    let f = rises (c .before .before) in
+    let x = added (edged (searched f)) in
+    (added-begun x, added-riser x (reached f))
 
 same-length-2 : tie.Need-same-length-2
 same-length-2 c = search needs
 
+-- they are sure to suffice
 returns-2 : tie.Need-returns-2
 returns-2 c =
     let i = c .before .before .before .before in
-    let w = i .before .before .before .before in
-    let e = edged (searched (rose w)) in
-    added-back (added e) (reached (rose w)) (begin e .args .words .now) (w .within .ensures) (omega (arith, i .if1 .taken)) (c .before .before .drop-edge .ensures)
+    let f = rises (i .before) in
+    let e = edged (searched f) in
+    let words = begin e .args .words .now in
+    let sure = enough-yes (read low (e .add-edge .last .0)) words (i .if1 .taken) (i .before .enough .ensures) in
+    let m = c .before .before .promote-and-settle in
+    let few : m .result .draws ≤ length words = omega (arith, m .ensures .draws, added-enough (added e) (reached f) words sure) in
+    added-made (added e) (reached f) words (tried-made (m .ensures) few) few
+
+try-out-requires : tie.Need-try-out-requires
+try-out-requires c κs =
+    let f = rises (c .before .before) in
+    let x = added (edged (searched f)) in
+    (added-begun x, added-riser x (reached f))
+
+-- what is tried, and that it is made, or the edge is taken out again
+abbrev rose : tie.After-try-out → tie.After-i
+rose c = rises (c .before .before .before)
+
+drop-edge-requires : tie.Need-drop-edge-requires
+drop-edge-requires c κs =
+    let w = c .before .before .before .before .before in
+    added-drops (added (edged (searched (rose w)))) (w .try-out .ensures .kept (omega (arith, c .before .if2 .taken)))
 
 same-length-3 : tie.Need-same-length-3
 same-length-3 c = search needs
 
 returns-3 : tie.Need-returns-3
 returns-3 c =
+    let i = c .before .before .before .before in
+    let w = i .before .before .before .before in
+    let e = edged (searched (rose w)) in
+    added-back (added e) (reached (rose w)) (begin e .args .words .now) (w .try-out .ensures) (omega (arith, i .if2 .taken)) (c .before .before .drop-edge .ensures)
+
+same-length-4 : tie.Need-same-length-4
+same-length-4 c = search needs
+
+returns-4 : tie.Need-returns-4
+returns-4 c =
     let w = c .before .before .before .before in
     let e = edged (searched (rose w)) in
-    added-made (added e) (reached (rose w)) (begin e .args .words .now) (w .within .ensures) (omega (arith, c .if1 .left))
+    added-made (added e) (reached (rose w)) (begin e .args .words .now) (w .try-out .ensures) (omega (arith, c .if2 .left))
 
 pub add-spec : {M : Type 1} → statement M
 add-spec =
@@ -116,9 +145,13 @@ add-spec =
     new-requires
     same-length
     returns
-    within-requires
-    drop-edge-requires
+    enough-requires
+    promote-and-settle-requires
     same-length-2
     returns-2
+    try-out-requires
+    drop-edge-requires
     same-length-3
-    returns-3)
+    returns-3
+    same-length-4
+    returns-4)
