@@ -27,10 +27,9 @@ pub all-of : (P : ℕ → Type 0) (l : List ℕ) → ((v : ℕ) → Mem v l → 
 all-of P [] h = tt
 all-of P (x ∷ l) h = (h x (inl refl), all-of P l (λ v m. h v (inr m)))
 
--- a queue of vertices below n that lacks one of them leaves a place
-spare : (n z k : ℕ) (places l : List ℕ) → n ≤ length places → length l ≡ k → Distinct l → ((v : ℕ) → Mem v l → v < n) → z < n → (Mem z l → ⊥)
-    → k < length places
-spare n z k places l room e once only inside out =
+-- a queue of vertices below n that lacks one of them is shorter than n
+spare : (n z k : ℕ) (l : List ℕ) → length l ≡ k → Distinct l → ((v : ℕ) → Mem v l → v < n) → z < n → (Mem z l → ⊥) → k < n
+spare n z k l e once only inside out =
     omega (
       arith,
       pigeonhole n (z ∷ l) (all-of (λ y. z ≢ y) l (λ v m f. out (subst (λ (x : ℕ). Mem x l) (sym f) m)), once)
@@ -40,14 +39,15 @@ spare n z k places l room e once only inside out =
 -- those of whom W holds wait
 module _ (W : ℕ → Type 0) {places : List ℕ} {t : Tally} {s : State} (wait : (v : ℕ) → W v → Waits (s .n) (marks s) v) (h : HoldsOnly W places t s) where
   -- a vertex below n that isn't in the queue leaves a place
-  pub place-for : (z : ℕ) → z < s .n → (W z → ⊥) → t .waiting < length places
+  pub place-for : (z : ℕ) → z < s .n → (W z → ⊥) → t .waiting < s .n
   place-for z inside out =
-      spare (s .n) z (t .waiting) places (queueIn places t) (h .room) (length-first (t .waiting) places (h .within)) (h .lists .once)
+      spare (s .n) z (t .waiting) (queueIn places t) (length-first (t .waiting) places (h .within)) (h .lists .once)
       (λ v m. wait v (h .lists .only v m) .0) inside (λ m. out (h .lists .only z m))
 
   can-part : (v : ℕ) → (Waits (s .n) (marks s) v → W v) → v < s .n → CanPart s v places t
   can-part v known inside = record {
     within = h .within;
+    lent = h .room;
     once = h .lists .once;
     stands = λ f k. h .lists .whole v (known (inside, (f, k)));
     absent = λ e m. omega (arith, e, wait v (h .lists .only v m) .1 .1);
@@ -64,7 +64,7 @@ module _ {places : List ℕ} {t : Tally} {s : State} (u : ℕ) (h : HoldsWaiting
   pub but-part : (v : ℕ) → v < s .n → v ≢ u → CanPart s v places t
   but-part v b d = can-part (λ x. Waits (s .n) (marks s) x × (x ≢ u)) (λ x w. w .0) h v (λ w. (w, d)) b
 
-  pub but-place : u < s .n → t .waiting < length places
+  pub but-place : u < s .n → t .waiting < s .n
   but-place b = place-for (λ x. Waits (s .n) (marks s) x × (x ≢ u)) (λ x w. w .0) h u b (λ w. w .1 refl)
 
 -- another tally of as many

@@ -52,7 +52,8 @@ pub record CanPart (s : State) (v : ℕ) (places : List ℕ) (t : Tally) : Type 
   pub once : Distinct (queueIn places t)
   pub stands : s .mate v ≡ v → 1 ≤ s .rank v → Mem v (queueIn places t)
   pub absent : s .rank v ≡ 0 → Mem v (queueIn places t) → ⊥
-  pub room : s .mate v ≢ v → (1 ≤ s .rank (s .mate v)) × (t .waiting < length places)
+  pub lent : s .n ≤ length places
+  pub room : s .mate v ≢ v → (1 ≤ s .rank (s .mate v)) × (t .waiting < s .n)
 
 -- the queue is l then, and no figure changes
 pub record Requeued (l : List ℕ) (t : Tally) (places : List ℕ) (t′ : Tally) : Type 0 where

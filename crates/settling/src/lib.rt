@@ -25,10 +25,10 @@ pub enum Choice {
 
 // v joins the end of the queue.
 pub fn join(queue: &mut [u16], v: usize, tally: Tally) -> Tally
-    requires { ⌜ (tally .waiting < length (now queue)) × (v < 65536) ⌝ }
+    requires { ⌜ (tally .waiting < length (now queue)) × (tally .waiting < 65536) × (v < 65536) ⌝ }
     ensures { λ r. ⌜ Requeued (queueIn (now (queue .entry)) tally ++ (v ∷ [])) tally (now (queue .exit)) r ⌝ }
 {
-    queue::join(queue, tally.waiting, v);
+    queue::join(queue, tally.waiting as usize, v);
     tally.waits(tally.waiting + 1)
 }
 
@@ -38,7 +38,7 @@ fn leave(queue: &mut [u16], v: usize, tally: Tally) -> Tally
     requires { ⌜ (Distinct (queueIn (now queue) tally)) × (Mem v (queueIn (now queue) tally)) ⌝ }
     ensures { λ r. ⌜ Requeued (without v (queueIn (now (queue .entry)) tally)) tally (now (queue .exit)) r ⌝ }
 {
-    queue::leave(queue, tally.waiting, v);
+    queue::leave(queue, tally.waiting as usize, v);
     tally.waits(tally.waiting - 1)
 }
 
@@ -164,7 +164,7 @@ fn scan(
 
 // v, which falls from level i, joins the end of its new level; at level -1 nobody waits.
 fn rejoin(queue: &mut [u16], v: usize, i: usize, tally: Tally) -> Tally
-    requires { ⌜ (tally .waiting < length (now queue)) × (v < 65536) ⌝ }
+    requires { ⌜ (tally .waiting < length (now queue)) × (tally .waiting < 65536) × (v < 65536) ⌝ }
     ensures { λ r. ⌜ Requeued (joinQueue v i (queueIn (now (queue .entry)) tally)) tally (now (queue .exit)) r ⌝ }
 {
     if i == 0 {
@@ -256,7 +256,7 @@ pub fn settle(rack: &mut [u8], queue: &mut [u16], words: &[u32], tally: Tally) -
     let mut left = layout::size(rack) * (layout::top() + 1);
     let mut t = tally;
     while 0 < left {
-        let Choice::At { i, v } = pick(rack, queue, t.waiting) else {
+        let Choice::At { i, v } = pick(rack, queue, t.waiting as usize) else {
             return t;
         };
         t = take(rack, queue, words, v, i, t);

@@ -7,7 +7,7 @@ ghost use Rattle.settling.specs.Settling.{fallLimit};
 pub struct Tally {
     pub draws: u64,
     pub falls: u32,
-    pub waiting: usize,
+    pub waiting: u32,
 }
 
 impl Tally {
@@ -46,7 +46,7 @@ impl Tally {
     }
 
     // So many wait.
-    pub fn waits(self, k: usize) -> Self
+    pub fn waits(self, k: u32) -> Self
         ensures { λ r. ⌜ (r .draws ≡ self .draws) × (r .falls ≡ self .falls) × (r .waiting ≡ k) ⌝ }
     {
         Tally {

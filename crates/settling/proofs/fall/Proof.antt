@@ -31,7 +31,12 @@ rejoin-requires : tie.Need-rejoin-requires
 rejoin-requires c κs =
     let s = start (down c) in
     let f = s .pre .1 .0 in
-    (omega (arith, c .fell .ensures .2, but-place _ (s .pre .1 .1 .0) (f .inside)), omega (arith, f .inside, held-few (s .pre .0 .0)))
+    let few = but-place _ (s .pre .1 .1 .0) (f .inside) in
+    let most = held-few (s .pre .0 .0) in (
+      omega (arith, c .fell .ensures .2, few, s .pre .1 .1 .0 .room),
+      omega (arith, c .fell .ensures .2, few, most),
+      omega (arith, f .inside, most),
+    )
 
 -- v has fallen and has joined its new level
 fallen : (c : tie.After-rejoin) →

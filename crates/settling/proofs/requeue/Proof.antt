@@ -28,7 +28,8 @@ join-requires c κs =
     let p = s .pre in
     let e = entry-paired (s .args .rack .now) (p .0 .0) (s .args .v) (p .0 .1) (m .mate .result) (m .mate .ensures)
     (λ z. omega (arith, z, c .before .if1 .taken)) in
-    (p .1 .room (e .0) .1, omega (arith, e .1, p .0 .0 .proper .few, p .0 .0 .proper .mates (s .args .v) (p .0 .1)))
+    let few = p .1 .room (e .0) .1 in
+    (omega (arith, few, p .1 .lent), omega (arith, few, p .0 .0 .proper .few), omega (arith, e .1, p .0 .0 .proper .few, p .0 .0 .proper .mates (s .args .v) (p .0 .1)))
 
 same-length : tie.Need-same-length
 same-length c = search needs

@@ -54,9 +54,12 @@ loop-holds c =
     let p = s .pre in
     going-start _ _ _ _ _ (p .0 .0) (p .0 .1) (p .1 .0) (p .1 .1) (s .good .1 .1 .0 .1) (takings (p .0 .0) _ _ (c .before .size .ensures) (c .top .ensures))
 
+cast-pick : tie.Need-cast-pick Inv-loop μ-loop
+cast-pick c = search needs
+
 pick-requires : tie.Need-pick-requires Inv-loop μ-loop
 pick-requires c κs =
-    let l = c .before .before .before .loop in
+    let l = c .before .before .before .before .loop in
     let h = l .inv .holds in
     (l .inv .held, (h .within, all-of (λ v. v < read low (l .rack) .n) (queueIn (l .queue) (l .t)) (λ v m. h .lists .only v m .0)))
 
@@ -78,30 +81,30 @@ queue-length : (c : tie.At-loop Inv-loop μ-loop) →
 queue-length c = c .loop .inv .long
 
 same-length : tie.Need-same-length Inv-loop μ-loop
-same-length c = rack-length (c .before .before .before .before .before .before)
+same-length c = rack-length (c .before .before .before .before .before .before .before)
 
 same-length-2 : tie.Need-same-length-2 Inv-loop μ-loop
-same-length-2 c = queue-length (c .before .before .before .before .before .before)
+same-length-2 c = queue-length (c .before .before .before .before .before .before .before)
 
 returns : tie.Need-returns Inv-loop μ-loop
 returns c =
-    going-rest (c .before .before .before .before .before .before .loop .inv)
+    going-rest (c .before .before .before .before .before .before .before .loop .inv)
     (sym (c .before .before .pick .ensures) ∙ ap foundBy (c .enum-told .given .1))
 
 -- what was picked is the pick of the queues
 picked : (c : tie.After-i Inv-loop μ-loop) →
-    let l = c .before .before .before .before .before .before .loop in
+    let l = c .before .before .before .before .before .before .before .loop in
     pick (suc (base .top)) (queuesIn (read low (l .rack) .rank) (queueIn (l .queue) (l .t))) ≡ found (c .i .given .0 .0) (c .i .given .0 .1 .0)
 picked c = sym (c .before .before .pick .ensures) ∙ ap foundBy (c .i .given .1)
 
 -- a taking was left
-some-left : (c : tie.After-i Inv-loop μ-loop) → 1 ≤ c .before .before .before .before .before .before .loop .left
-some-left c = c .before .before .before .before .before .loop-test .taken
+some-left : (c : tie.After-i Inv-loop μ-loop) → 1 ≤ c .before .before .before .before .before .before .before .loop .left
+some-left c = c .before .before .before .before .before .before .loop-test .taken
 
 take-requires : tie.Need-take-requires Inv-loop μ-loop
 take-requires c κs =
     let d = c .before .before .before in
-    let g = d .before .before .before .before .before .before .loop .inv in
+    let g = d .before .before .before .before .before .before .before .loop .inv in
     let a = taking-of _ _ _ _ _ (g .held .proper) (g .holds) (picked d) in
     ((g .held, g .ordered), ((a .inside, a .free, a .rank, a .level), (g .holds, going-room g (some-left d))))
 
@@ -114,7 +117,7 @@ loop-less c = omega (arith, some-left (c .before .before .before .before .before
 loop-again : tie.Need-loop-again Inv-loop μ-loop
 loop-again c =
     let d = c .before .before .before .before .before .before .before .before in
-    going-on (d .before .before .before .before .before .before .loop .inv) (picked d) _ (omega (arith, some-left d))
+    going-on (d .before .before .before .before .before .before .before .loop .inv) (picked d) _ (omega (arith, some-left d))
     (c .before .before .before .before .take .ensures) (c .before .before .before .before .take .kept .1 .0)
 
 same-length-3 : tie.Need-same-length-3 Inv-loop μ-loop
@@ -137,6 +140,7 @@ settle-spec =
     add-left
     mul-left
     loop-holds
+    cast-pick
     pick-requires
     enum-known-i
     enum-told

@@ -35,7 +35,7 @@ join-requires : tie.Need-join-requires
 join-requires c κs =
     let s = begin (lent c) in
     let h = s .pre .0 .held in
-    (omega (arith, c .new .ensures .2, lent c .places .ensures), omega (arith, s .pre .1 .0, h .proper .few))
+    (omega (arith, c .new .ensures .2, lent c .places .ensures), omega (arith, c .new .ensures .2), omega (arith, s .pre .1 .0, h .proper .few))
 
 slice-aggregate-join-2 : tie.Need-slice-aggregate-join-2
 slice-aggregate-join-2 c = search needs
@@ -44,13 +44,11 @@ join-requires-2 : tie.Need-join-requires-2
 join-requires-2 c κs =
     let j = c .before .before in
     let l = lent (j .before) in
-    let h = begin l .pre .0 .held in (
-      omega (
-        arith,
-        one-waits (l .places .result) (j .join .last .0) (begin l .args .a) (j .before .new .result) (j .join .result) (j .before .new .ensures) (j .join .ensures),
-        j .join .kept .0,
-        l .places .ensures,
-      ),
+    let h = begin l .pre .0 .held in
+    let one =
+    one-waits (l .places .result) (j .join .last .0) (begin l .args .a) (j .before .new .result) (j .join .result) (j .before .new .ensures) (j .join .ensures) in (
+      omega (arith, one, j .join .kept .0, l .places .ensures),
+      omega (arith, one),
       omega (arith, begin l .pre .1 .1, h .proper .few),
     )
 
