@@ -63,19 +63,22 @@ fn change_of(
         Err(number) => return Answer::refused(number),
     };
     let pairs = pairs(rack);
-    let enough = |rack: &RackBytes| words.get(..vertices(rack) / 2).is_some_and(all_choose);
+    let enough = |rack: &RackBytes, most: usize| {
+        let first = words.get(..most.min(vertices(rack) / 2));
+        first.is_some_and(all_choose)
+    };
     made(rack, code, ends, words.iter().copied(), enough, pairs)
 }
 
 /// A change that 7 to 11 don't fit, on a sound rack that holds so many pairs. If the
-/// words are enough for any change of that rack, each draw takes the next of them.
+/// words are enough for as many draws as it can have, each takes the next of them.
 #[inline(always)]
 pub fn made<W: Iterator<Item = u32> + Clone>(
     rack: &mut RackBytes,
     code: u32,
     ends: (u8, u8),
     words: W,
-    enough: impl Fn(&RackBytes) -> bool,
+    enough: impl Fn(&RackBytes, usize) -> bool,
     pairs: u32,
 ) -> Answer {
     let places = Plain(words.clone());
@@ -91,7 +94,7 @@ fn play<P: Places>(
     code: u32,
     ends: (u8, u8),
     places: P,
-    enough: impl Fn(&RackBytes) -> bool,
+    enough: impl Fn(&RackBytes, usize) -> bool,
     pairs: u32,
 ) -> Option<Tally> {
     if code == 1 {
@@ -112,7 +115,7 @@ fn made_or_not<W: Iterator<Item = u32>>(
 ) -> Answer {
     let saved = Saved::of(rack);
     let mut fair = Fair::of(words);
-    let tally = play(rack, code, ends, &mut fair, |_| true, pairs);
+    let tally = play(rack, code, ends, &mut fair, |_, _| true, pairs);
     match tally.filter(|_| !fair.ran_out) {
         Some(tally) => Answer {
             draws: u64::from(tally.draws) + fair.passed,

@@ -31,7 +31,7 @@ pub fn add<P: Places>(
     rack: &mut RackBytes,
     (a, b): (u8, u8),
     places: P,
-    enough: impl FnOnce(&RackBytes) -> bool,
+    enough: impl FnOnce(&RackBytes, usize) -> bool,
     pairs: u32,
 ) -> Option<Tally> {
     let (low, high) = (a.min(b), a.max(b));
@@ -39,7 +39,7 @@ pub fn add<P: Places>(
     let Some((riser, rank)) = riser(rack, low, high) else {
         return Some(Tally::start(pairs));
     };
-    if !enough(rack) {
+    if !enough(rack, most_draws(rank, 1)) {
         take_edge(rack, low, high);
         return None;
     }
@@ -62,22 +62,33 @@ pub fn drop<P: Places>(
     rack: &mut RackBytes,
     (a, b): (u8, u8),
     places: P,
-    enough: impl FnOnce(&RackBytes) -> bool,
+    enough: impl FnOnce(&RackBytes, usize) -> bool,
     pairs: u32,
 ) -> Option<Tally> {
     if mate(rack, a) != u16::from(b) {
         take_edge(rack, a, b);
         return Some(Tally::start(pairs));
     }
-    if !enough(rack) {
+    let rank = rank(rack, a);
+    if !enough(rack, most_draws(rank, 2)) {
         return None;
     }
     take_edge(rack, a, b);
-    let rank = rank(rack, a);
     let mut play = Play::start(rack, places, pairs);
     play.part(a, b, rank);
     play.settle(rank);
     Some(play.tally)
+}
+
+/// The most draws of a change that begins at a rank with so many who may draw: whoever
+/// is drawn at rank 1 was free, and who falls from there has nobody to scan, so that
+/// nobody else draws.
+fn most_draws(rank: u8, begin: usize) -> usize {
+    if rank == 1 {
+        begin
+    } else {
+        usize::MAX
+    }
 }
 
 /// Takes the edge out, which both ends counted above both ranks.

@@ -1,6 +1,6 @@
 -- What is left of a trial: all of the run if its words sufficed, and otherwise the bytes as they were. Assumes nothing.
 use mathlib.Core.Path.{_≡_, sym, subst}
-use mathlib.Core.Logic.{_⊎_}
+use mathlib.Core.Logic.{_⊎_, inl, inr}
 use mathlib.Core.Bool.{Bool, true, false}
 use mathlib.Core.List.{List}
 use Prim.Native.Nat.{ℕ, _/_, _≤_, _<_}
@@ -9,7 +9,8 @@ use lib.ListN.{length}
 use Rattle.model.specs.Shape.{Shape, low}
 use Rattle.model.specs.State.{State, edges}
 use Rattle.model.specs.Moves.{Run}
-use Rattle.model.proofs.Tests.{true-T}
+use Rattle.model.specs.Change.{lower}
+use Rattle.model.proofs.Tests.{le?, leb-yes, leb-no, true-T}
 use Rattle.moves.specs.Proper.{Held}
 use Rattle.drawing.specs.Sure.{Sure}
 use Rattle.drawing.proofs.Certain.{sure}
@@ -39,15 +40,37 @@ module _ {r : Run} {words bs bs′ : List ℕ} {t : Tally} (e : Ended r bs′ t)
   tried-back h b = record { draws = e .draws; falls = e .falls; made = λ k. absurd (omega arith); kept = λ k. b }
 
 -- as many words that are sure to choose as there can be new pairs
-pub sure-enough : (s : State) (words : List ℕ) (h : ℕ) (yes : Bool) → s .n ≤ low .most → (s .n / 2 ≤ h) ⊎ (edges s ≤ h) → Sure yes words h → Enough yes s words
-sure-enough s words h true few b q = record {
+pub sure-enough : (s : State) (i k : ℕ) (words : List ℕ) (h : ℕ) (ok : Bool) → s .n ≤ low .most
+    → (s .n / 2 ≤ h) ⊎ (edges s ≤ h) ⊎ ((i ≡ 0) × (k ≤ h)) → Sure ok words h → Enough ok s i k words
+sure-enough s i k words h true few b q = record {
   most = h;
   bound = b;
-  many = q .0;
-  small = λ j k l p m. true-T (sure _ k p (omega arith) (q .1 j l));
+  quick = record { many = q .0; small = λ j x l p m. true-T (sure _ x p (omega arith) (q .1 j l)) };
 }
-sure-enough s words h false few b q = tt
+sure-enough s i k words h false few b q = tt
 
--- the answer was yes
-pub enough-yes : (s : State) (words : List ℕ) {yes : Bool} → yes ≡ true → Enough yes s words → Enough true s words
-enough-yes s words e q = subst (λ (x : Bool). Enough x s words) e q
+-- the lower of two numbers is one of them
+lower-either : (x y : ℕ) → (x ≤ lower x y) ⊎ (y ≤ lower x y)
+unfolding lower
+lower-either x y = elim (le? x y) [
+  | inl l ↦ inl (rw (leb-yes x y l, lower) (omega arith))
+  | inr l ↦ inr (rw (leb-no x y l, lower) (omega arith))
+]
+
+-- where h is the lower of two numbers, half the vertices or more and the edges or more
+pub lower-enough : (s : State) (i k : ℕ) (words : List ℕ) {x y h : ℕ} (ok : Bool) → s .n ≤ low .most → s .n / 2 ≤ x → edges s ≤ y → h ≡ lower x y
+    → Sure ok words h → Enough ok s i k words
+lower-enough s i k words {x} {y} {h} ok few p r e q = sure-enough s i k words h ok few (elim (lower-either x y) [
+  | inl l ↦ inl (omega arith)
+  | inr l ↦ inr (inl (omega arith))
+]) q
+
+-- the answer was yes, for as many as can draw or more
+pub enough-yes : (s : State) (i k : ℕ) (words : List ℕ) {k′ : ℕ} {ok : Bool} → k ≤ k′ → ok ≡ true → Enough ok s i k′ words → Enough true s i k words
+enough-yes s i k words {k′} l e q =
+    let z = subst (λ (x : Bool). Enough x s i k′ words) e q in
+    record {
+      most = z .most;
+      bound = elim (z .bound) [ inl b ↦ inl b | inr (inl b) ↦ inr (inl b) | inr (inr b) ↦ inr (inr (b .0, omega (arith, b .1))) ];
+      quick = z .quick;
+    }

@@ -9,16 +9,16 @@ use lib.Dec.{T}
 use lib.ListN.{length}
 use Rattle.model.specs.Shape.{Shape}
 use Rattle.model.specs.State.{base, State, edge, edges, pending}
-use Rattle.model.specs.Bytes.{mateAt, read, write, mateEntry}
+use Rattle.model.specs.Bytes.{rankAt, mateAt, read, write, mateEntry}
 use Rattle.model.specs.Moves.{Run, none, found, promote, settle}
 use Rattle.model.specs.Change.{start, startParted, reown, addEdge, riser, add, drop}
-use Rattle.model.proofs.Tests.{T-true, eqb-yes, eqb-no}
+use Rattle.model.proofs.Tests.{le?, T-true, eqb-yes, eqb-no}
 use Rattle.theory.specs.Waiting.{marks, Paired}
-use Rattle.theory.specs.Quick.{Quick}
-use Rattle.theory.proofs.Matching.{base-pos}
-use Rattle.theory.proofs.ChangeStep.{add-quick, drop-quick}
+use Rattle.theory.specs.Quick.{Suffices}
+use Rattle.theory.proofs.Matching.{base-one, base-pos}
+use Rattle.theory.proofs.Making.{add-quick, drop-quick}
 use Rattle.moves.specs.Proper.{Proper, Ordered, Held}
-use Rattle.moves.proofs.Held.{held-of, held-small, held-mate, reads-as, valid-proper, valid-ordered}
+use Rattle.moves.proofs.Held.{held-of, held-small, held-rank, held-mate, reads-as, valid-proper, valid-ordered}
 use Rattle.edges.proofs.Changed.{dropEdge, add-size, add-proper, add-joined, drop-proper}
 use Rattle.edges.proofs.Undone.{undone}
 use Rattle.settling.specs.declared.tally.Tally.{Tally}
@@ -107,11 +107,13 @@ module _ {S : Shape} {bs₀ : List ℕ} {a b : ℕ} {bs : List ℕ} (x : Added S
         (ap (λ (s : State). settle base words (promote words i u (start s))) (sym added-read))
 
     -- words that are sure to suffice
-    pub added-enough : (words : List ℕ) → Enough true (read S bs) words → workRun words (Rise i u) (read S bs) .draws ≤ length words
+    pub added-enough : (words : List ℕ) → Enough true (read S bs) i 1 words → workRun words (Rise i u) (read S bs) .draws ≤ length words
     added-enough words q =
         let n : read S bs .n ≡ read S bs₀ .n = ap (λ (s : State). s .n) added-read ∙ add-size a b (read S bs₀) in
-        let few = add-quick base base-pos (read S bs₀) (x .from .valid) words a b (x .ends .0) (x .ends .1) (x .ends .2) (λ h. subst T (x .ends .3) h)
-        (subst (λ (m : ℕ). Quick m (edges (addEdge a b (read S bs₀))) words) n (subst (λ (s : State). Quick (read S bs .n) (edges s) words) added-read q)) in
+        let few = add-quick base base-pos (read S bs₀) (x .from .valid) words a b (x .ends .0) (x .ends .1) (x .ends .2)
+        (λ h. subst T (x .ends .3) h) base-one (subst (λ (s : State). riser base a b (suc (base .top)) s ≡ found i u) added-read f)
+        (subst (λ (m : ℕ). Suffices m (edges (addEdge a b (read S bs₀))) i 1 words) n
+        (subst (λ (s : State). Suffices (read S bs .n) (edges s) i 1 words) added-read q)) in
         omega (arith, few, ap (λ (r : Run). r .draws) (added-is words))
 
     -- it is made, or the edge is taken out again
@@ -198,15 +200,26 @@ module _ {S : Shape} {bs : List ℕ} (ok : Sounded S bs) {a b : ℕ} (ends : (a 
       pub loose : k ≢ b → read S bs .mate a ≢ b
       loose d = entry-not (read S bs) a b (ends .2) (λ e. d (entry ∙ e))
 
+    -- its level, once its rank is read
+    pub pair-rank : {k : ℕ} → k ≡ rankAt bs a → Joins (read S bs) a b → (read S bs .rank a ≡ k) × (1 ≤ k)
+    pair-rank e j =
+        let r : rankAt bs a ≡ read S bs .rank a = let h = sounded-held bs ok in held-rank h a (held-small h a (ends .0)) in (
+          sym (e ∙ r),
+          elim (le? 1 (read S bs .rank a)) [
+            | inl l ↦ omega (arith, e ∙ r)
+            | inr l ↦ absurd (ends .2 (sym (ok .valid .low-free a (omega arith)) ∙ j .mates))
+          ],
+        )
+
     module _ (words : List ℕ) (j : Joins (read S bs) a b) where
       pair-is : drop base words a b (read S bs) ≡ workRun words (Part a b) (read S bs)
       unfolding drop
       pair-is = rw (eqb-yes (read S bs .mate a) b (j .mates), drop) refl
 
       -- words that are sure to suffice
-      pub pair-enough : Enough true (read S bs) words → workRun words (Part a b) (read S bs) .draws ≤ length words
-      pair-enough q =
-          let few = drop-quick base base-pos (read S bs) (ok .valid) words a b (ends .0) (ends .1) (ends .2) q in
+      pub pair-enough : {i : ℕ} → read S bs .rank a ≡ suc i → Enough true (read S bs) i 2 words → workRun words (Part a b) (read S bs) .draws ≤ length words
+      pair-enough l q =
+          let few = drop-quick base base-pos (read S bs) (ok .valid) words a b (ends .0) (ends .1) (ends .2) base-one (j .mates) l q in
           omega (arith, few, ap (λ (r : Run). r .draws) pair-is)
 
       pub pair-tried : {bs′ : List ℕ} {t : Tally} → Tried (workRun words (Part a b) (read S bs)) words bs bs′ t

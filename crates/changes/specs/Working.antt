@@ -11,7 +11,7 @@ use Rattle.model.specs.State.{base, State, edge, edges}
 use Rattle.model.specs.Bytes.{read, write}
 use Rattle.model.specs.Moves.{Run, promote, settle}
 use Rattle.model.specs.Change.{start, startParted, reown, withoutEdge}
-use Rattle.theory.specs.Quick.{Quick}
+use Rattle.theory.specs.Quick.{Suffices}
 use Rattle.settling.specs.declared.tally.Tally.{Tally}
 use Rattle.changes.specs.Sounded.{Sounded, Begun, Liftable}
 use Rattle.changes.specs.declared.working.Work.{Work}
@@ -39,7 +39,8 @@ pub record Tried (r : Run) (words bs bs′ : List ℕ) (t : Tally) : Type 0 wher
   pub made : t .draws ≤ length words → bs′ ≡ write (r .state)
   pub kept : length words < t .draws → bs′ ≡ bs
 
--- the answer yes says that the words are sure to suffice for a change that leaves no more edges than s has; the answer no says nothing
-abbrev pub Enough : Bool → State → List ℕ → Type 0
-Enough true s words = Quick (s .n) (edges s) words
-Enough false s words = Unit
+-- the answer yes says that the words are sure to suffice for a change that leaves no more edges than s has and begins at level i, where k can draw
+-- if that is level 0; the answer no says nothing
+abbrev pub Enough : Bool → State → ℕ → ℕ → List ℕ → Type 0
+Enough true s i k words = Suffices (s .n) (edges s) i k words
+Enough false s i k words = Unit

@@ -114,7 +114,7 @@ fn add(rack: &mut [u8], a: usize, b: usize, words: &[u32]) -> Tally
     let edges::Reached::At { i, u } = edges::riser(rack, a, b) else {
         return Tally::new();
     };
-    if working::enough(rack, words) {
+    if working::enough(rack, i, 1, words) {
         return working::promote_and_settle(rack, u, i, words);
     }
     let t = working::try_out(rack, Work::Rise { i, u }, words);
@@ -134,7 +134,8 @@ fn drop(rack: &mut [u8], a: usize, b: usize, words: &[u32]) -> Tally
         edges::drop_edge(rack, a, b);
         return Tally::new();
     }
-    if working::enough(rack, words) {
+    let i = layout::rank(rack, a) as usize - 1;
+    if working::enough(rack, i, 2, words) {
         edges::drop_edge(rack, a, b);
         return working::part_and_settle(rack, a, b, words);
     }

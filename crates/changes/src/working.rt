@@ -81,15 +81,18 @@ pub fn try_out(rack: &mut [u8], work: Work, words: &[u32]) -> Tally
     t
 }
 
-// Whether the words are sure to suffice: no change has more new pairs than half the boards, nor more than links.
-pub fn enough(rack: &[u8], words: &[u32]) -> bool
+// Whether the words are sure to suffice for a change that begins at level i: no change has more new pairs than half the boards, nor more than
+// links, and at level 0 only k can draw, the one that rises or the two that are parted.
+pub fn enough(rack: &[u8], i: usize, k: usize, words: &[u32]) -> bool
     requires { ⌜ Held low (now rack) ⌝ }
-    ensures { λ r. ⌜ Enough r (read low (now (rack .entry))) (now (words .entry)) ⌝ }
+    ensures { λ r. ⌜ Enough r (read low (now (rack .entry))) i k (now (words .entry)) ⌝ }
 {
+    if i == 0 {
+        if drawing::sure(words, k) {
+            return true;
+        }
+    }
     let half = layout::size(rack) / 2;
     let edges = layout::edges(rack) as usize;
-    if edges < half {
-        return drawing::sure(words, edges);
-    }
-    drawing::sure(words, half)
+    drawing::sure(words, crate::lower(half, edges))
 }

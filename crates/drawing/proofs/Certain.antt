@@ -6,12 +6,11 @@ use mathlib.Core.List.{List}
 use Prim.Native.Nat.{ℕ, suc, _+_, _*_, _/_, _^_, _≤_, _<_}
 use native.Mathlib.Nat.{div-mul-le-self}
 use native.Mathlib.Omega.{arith}
-use lib.Bits.{bitOr, or-add-and, and-le-l, and-le-r}
-use lib.Dec.{T, ltb}
+use lib.Dec.{T}
 use lib.ListN.{length, getD}
 use Rattle.model.specs.Shape.{low}
 use Rattle.model.specs.Words.{allWords, limit, chooses}
-use Rattle.model.proofs.Tests.{eq?, le?, leb-yes, leb-no}
+use Rattle.model.proofs.Tests.{eq?, leb-yes}
 use Rattle.model.proofs.Fair.{limit-next}
 use Rattle.drawing.specs.Sure.{Sure}
 
@@ -52,21 +51,3 @@ none-next words {j} e f h same n i b = elim (eq? i j) [
 pub sure-of : (words : List ℕ) (h : ℕ) {j : ℕ} (large : Bool) → h ≤ length words → h ≤ j → NoneLarge words j large → Sure (not large) words h
 sure-of words h true many l f = tt
 sure-of words h false many l f = (many, λ i b. f refl i (omega arith))
-
--- none of the first j words is above `all`, the bits of all of them
-abbrev pub UpTo : List ℕ → ℕ → ℕ → Type 0
-UpTo words j all = (i : ℕ) → i < j → getD words i 0 ≤ all
-
-pub upto-next : (words : List ℕ) {j j′ all : ℕ} → j′ ≡ suc j → UpTo words j all → UpTo words j′ (bitOr all (getD words j 0))
-upto-next words {j} {j′} {all} e f i b =
-    let w : ℕ = getD words j 0 in
-    elim (eq? i j) [
-      | inl p ↦ rw p (omega (arith, or-add-and all w, and-le-l all w))
-      | inr d ↦ omega (arith, f i (omega arith), or-add-and all w, and-le-r all w)
-    ]
-
-pub sure-small : (words : List ℕ) (h : ℕ) {j all : ℕ} → h ≤ length words → h ≤ j → UpTo words j all → Sure (ltb all 4294967040) words h
-sure-small words h {j} {all} many l f = elim (le? 4294967040 all) [
-  | inl k ↦ rw (leb-no (suc all) 4294967040 (omega arith)) tt
-  | inr k ↦ rw (leb-yes (suc all) 4294967040 (omega arith)) (many, λ i b. below-sure (getD words i 0) (omega (arith, f i (omega arith))))
-]

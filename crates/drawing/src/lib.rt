@@ -1,7 +1,6 @@
 // The words of a draw: which one decides it, and a quick test for words that suffice.
 ghost use mathlib.Core.Path.{_≡_};
 ghost use Prim.Native.Nat.{_≤_};
-ghost use lib.ListN.{length};
 ghost use Rattle.model.specs.Shape.{low};
 ghost use Rattle.model.specs.Words.{chooses as choosing, deciding, place as placeOf};
 ghost use Rattle.drawing.specs.Sure.{Sure};
@@ -52,26 +51,14 @@ pub fn decide(words: &[u32], used: usize, k: usize) -> Decision
     }
 }
 
-// Whether the first h words, which are there, have no bits together that would make a number of 2^32 - 256 or more. A no says nothing.
-fn small(words: &[u32], h: usize) -> bool
-    requires { ⌜ h ≤ length (now words) ⌝ }
+// Whether the first h words are there, each below 2^32 - 256. A no says nothing. All of them are looked at, several at once: that is quicker than to
+// stop at the first that is large.
+pub fn sure(words: &[u32], h: usize) -> bool
     ensures { λ r. ⌜ Sure r (now (words .entry)) h ⌝ }
 {
-    let mut all: u32 = 0;
-    let mut j = 0;
-    while j < h {
-        all |= words[j];
-        j += 1;
+    if words.len() < h {
+        return false;
     }
-    all < SURE
-}
-
-// Whether each of the first h words, which are there, is below 2^32 - 256. All are looked at, several at once: that is quicker than to stop at the
-// first that is large.
-fn none_large(words: &[u32], h: usize) -> bool
-    requires { ⌜ h ≤ length (now words) ⌝ }
-    ensures { λ r. ⌜ Sure r (now (words .entry)) h ⌝ }
-{
     let mut large = false;
     let mut j = 0;
     while j < h {
@@ -81,17 +68,4 @@ fn none_large(words: &[u32], h: usize) -> bool
         j += 1;
     }
     !large
-}
-
-// Whether the first h words are there, each below 2^32 - 256. A no says nothing. Where all words are small, their bits together tell, and that is quicker.
-pub fn sure(words: &[u32], h: usize) -> bool
-    ensures { λ r. ⌜ Sure r (now (words .entry)) h ⌝ }
-{
-    if words.len() < h {
-        return false;
-    }
-    if small(words, h) {
-        return true;
-    }
-    none_large(words, h)
 }

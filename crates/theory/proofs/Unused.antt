@@ -48,6 +48,14 @@ enough-alike R s c e h = elim (beyond R s c e) [
   | inr a ↦ absurd (subst T h (le→leb (suc (length (c .words))) (accepted R s c .answer .draws) (a .0)))
 ]
 
+-- .. and does not run out
+enough-still : (R : Rules) (s : State) (c : Change) (e : List ℕ) → runsOut R s c ≡ false → runsOut R s (lent c e) ≡ false
+unfolding runsOut
+enough-still R s c e h =
+    let same = ap (λ (x : Changed). x .answer .draws) (enough-alike R s c e h) in
+    let l = length-append (c .words) e in
+    leb-no (suc (length (c .words ++ e))) (accepted R s (lent c e) .answer .draws) (omega (arith, same, enough R s c h, l))
+
 -- A change that runs out uses more words than it was lent, whatever is lent beyond them.
 pub out-still : (R : Rules) (s : State) (c : Change) (e : List ℕ) → runsOut R s c ≡ true
     → length (c .words) < accepted R s (lent c e) .answer .draws
@@ -56,14 +64,6 @@ out-still R s c e h = elim (beyond R s c e) [
   | inl a ↦ absurd (let k : length (c .words) < accepted R s c .answer .draws = ltb→lt _ _ (true-T h) in omega (arith, a .1))
   | inr a ↦ a .1
 ]
-
--- .. so one that does not run out does not with more words
-enough-still : (R : Rules) (s : State) (c : Change) (e : List ℕ) → runsOut R s c ≡ false → runsOut R s (lent c e) ≡ false
-unfolding runsOut
-enough-still R s c e h =
-    let same = ap (λ (x : Changed). x .answer .draws) (enough-alike R s c e h) in
-    let l = length-append (c .words) e in
-    leb-no (suc (length (c .words ++ e))) (accepted R s (lent c e) .answer .draws) (omega (arith, same, enough R s c h, l))
 
 -- A change, by what fits it.
 module _ (R : Rules) (s : State) (c : Change) where

@@ -95,7 +95,7 @@ returns-2 c =
     let f = rises (i .before) in
     let e = edged (searched f) in
     let words = begin e .args .words .now in
-    let sure = enough-yes (read low (e .add-edge .last .0)) words (i .if1 .taken) (i .before .enough .ensures) in
+    let sure = enough-yes (read low (e .add-edge .last .0)) _ 1 words (omega arith) (i .if1 .taken) (i .before .enough .ensures) in
     let m = c .before .before .promote-and-settle in
     let few : m .result .draws ≤ length words = omega (arith, m .ensures .draws, added-enough (added e) (reached f) words sure) in
     added-made (added e) (reached f) words (tried-made (m .ensures) few) few

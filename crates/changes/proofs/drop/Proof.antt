@@ -1,4 +1,5 @@
 -- `changes::drop` meets its contract. Assumes nothing.
+use mathlib.Core.Path.{_≡_}
 use Prim.Native.Nat.{_≤_}
 use native.Mathlib.Omega.{arith}
 use lib.ListN.{length}
@@ -16,6 +17,7 @@ use Rattle.changes.proofs.Wholes.{
   dropped-loose,
   joins,
   loose,
+  pair-rank,
   pair-enough,
   pair-tried,
 }
@@ -60,12 +62,31 @@ returns c =
 mates : (c : tie.Else1) → let a = begin (c .before) .args in Joins (read low (a .rack .now)) (a .a) (a .b)
 mates c = let s = begin (c .before) in joins (s .pre .0) (s .pre .1) (c .before .mate .ensures) (omega (arith, c .if1 .left))
 
+rank-requires : tie.Need-rank-requires
+rank-requires c κs =
+    let s = begin (c .before .before) in
+    let h = sounded-held (s .args .rack .now) (s .pre .0) in
+    (held-sized h, held-small h (s .args .a) (s .pre .1 .0))
+
+cast-i : tie.Need-cast-i
+cast-i c = search needs
+
+-- the level of the pair
+ranked : (c : tie.After-rank) → let a = begin (c .before .before .before) .args in (read low (a .rack .now) .rank (a .a) ≡ c .rank .result) × (1 ≤ c .rank .result)
+ranked c =
+    let m = c .before .before in
+    let s = begin (m .before) in
+    pair-rank (s .pre .0) (s .pre .1) (c .rank .ensures) (mates m)
+
+sub-i : tie.Need-sub-i
+sub-i c = omega (arith, ranked c .1)
+
 enough-requires : tie.Need-enough-requires
-enough-requires c κs = let s = begin (c .before .before) in sounded-held (s .args .rack .now) (s .pre .0)
+enough-requires c κs = let s = begin (c .before .before .before .before) in sounded-held (s .args .rack .now) (s .pre .0)
 
 -- where the words are looked at
 abbrev joined : tie.After-enough → tie.Else1
-joined c = c .before .before
+joined c = c .before .before .before .before
 
 drop-edge-requires-2 : tie.Need-drop-edge-requires-2
 drop-edge-requires-2 c κs = let s = begin (joined (c .before .before) .before) in (sounded-held (s .args .rack .now) (s .pre .0), s .pre .1)
@@ -98,8 +119,10 @@ returns-2 c =
     let words = s .args .words .now in
     let m = c .before .before .part-and-settle in
     let e = dropped-pair (without d) words (m .ensures) in
-    let yes = enough-yes (read low (s .args .rack .now)) words (i .if2 .taken) (i .before .enough .ensures) in
-    let few : m .result .draws ≤ length words = omega (arith, e .draws, pair-enough (s .pre .0) (s .pre .1) words j yes) in
+    let k = ranked (i .before .before .before) in
+    let yes = enough-yes (read low (s .args .rack .now)) _ 2 words (omega arith) (i .if2 .taken) (i .before .enough .ensures) in
+    let few : m .result .draws ≤ length words =
+    omega (arith, e .draws, pair-enough (s .pre .0) (s .pre .1) words j (omega (arith, k .0, k .1)) yes) in
     pair-tried (s .pre .0) (s .pre .1) words j (tried-made e few)
 
 try-out-requires : tie.Need-try-out-requires
@@ -126,6 +149,9 @@ drop-spec =
     new-requires
     same-length
     returns
+    rank-requires
+    cast-i
+    sub-i
     enough-requires
     drop-edge-requires-2
     part-and-settle-requires
