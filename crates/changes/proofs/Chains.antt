@@ -22,7 +22,7 @@ use Rattle.moves.specs.Proper.{Proper, Ordered, Held}
 use Rattle.moves.proofs.Held.{held-few, held-of, reads-as}
 use Rattle.moves.proofs.Keeps.{part-proper}
 use Rattle.settling.specs.declared.tally.Tally.{Tally}
-use Rattle.settling.specs.Settling.{queueIn, running, HoldsWaiting, Requeued, Room, Left}
+use Rattle.settling.specs.Settling.{QueueIs, queueIn, running, HoldsWaiting, Room, Left}
 use Rattle.settling.proofs.Steps.{SameEdges, promote-kept}
 use Rattle.settling.proofs.News.{SameRun, same-then, promote-same, promote-room, promote-falls}
 use Rattle.settling.proofs.Written.{levels-as, left-run}
@@ -107,22 +107,21 @@ promoted-next {S} words i u {bs₀} places₀ {t₀} b m z {bs} {places} {t} l =
     }
 
 -- where nobody waited, the first to join is the only one
-pub one-waits : (places₀ places : List ℕ) (a : ℕ) (t₀ t : Tally) → Fresh t₀ → Requeued (queueIn places₀ t₀ ++ (a ∷ [])) t₀ places t → t .waiting ≡ 1
-one-waits places₀ places a t₀ t z q =
-    sym (length-first (t .waiting) places (q .within)) ∙ ap length (q .queue ∙ ap (λ (l : List ℕ). l ++ (a ∷ [])) (nobody places₀ t₀ z))
+pub one-waits : (places : List ℕ) (a k : ℕ) → QueueIs (a ∷ []) places k → k ≡ 1
+one-waits places a k q = sym (length-first k places (q .within)) ∙ ap length (q .queue)
 
 -- Parting a and b, which are mates: first one joined the queue, then the other.
 module _ {S : Shape} {bs : List ℕ} (g : Begun S bs) {a b : ℕ} (ends : (a < read S bs .n) × (b < read S bs .n) × (a ≢ b) × (read S bs .mate a ≡ b))
-    (places₀ places₁ : List ℕ) {places : List ℕ} (t₀ t₁ : Tally) {t : Tally} (z : Fresh t₀) (long : length places ≡ S .most)
-    (first : Requeued (queueIn places₀ t₀ ++ (a ∷ [])) t₀ places₁ t₁) (both : Requeued (queueIn places₁ t₁ ++ (b ∷ [])) t₁ places t) where
+    (places₁ : List ℕ) {places : List ℕ} {k₁ k : ℕ} {t : Tally} (long : length places ≡ S .most) (first : QueueIs (a ∷ []) places₁ k₁)
+    (both : QueueIs (take k₁ places₁ ++ (b ∷ [])) places k) (z : (t .draws ≡ 0) × (t .falls ≡ 0) × (t .waiting ≡ k)) where
   two : queueIn places t ≡ a ∷ b ∷ []
-  two = both .queue ∙ ap (λ (l : List ℕ). l ++ (b ∷ [])) (first .queue ∙ ap (λ (l : List ℕ). l ++ (a ∷ [])) (nobody places₀ t₀ z))
+  two = ap (λ (x : ℕ). take x places) (z .2) ∙ both .queue ∙ ap (λ (l : List ℕ). l ++ (b ∷ [])) (first .queue)
 
   parted-holds : HoldsWaiting places t (part a (read S bs))
   unfolding part
   parted-holds = record {
     room = omega (arith, held-few (g .held));
-    within = both .within;
+    within = omega (arith, both .within, z .2);
     lists = rw two (parted-lists (g .paired) (free-low g) (part-is a (read S bs)) (ends .0) (ends .1) (ends .2) (ends .3));
     paired = lift-paired (g .paired) (part-is a (read S bs)) (ends .0);
   }
@@ -137,12 +136,12 @@ module _ {S : Shape} {bs : List ℕ} (g : Begun S bs) {a b : ℕ} (ends : (a < r
         held = held-of bs′ (part a (read S bs)) e p;
         ordered = subst Ordered (sym r) (g .ordered);
         holds = subst (HoldsWaiting places t) (sym r) parted-holds;
-        room = record { draws = omega (arith, both .draws, first .draws, z .0); falls = omega (arith, both .falls, first .falls, z .1) };
+        room = record { draws = omega (arith, z .0); falls = omega (arith, z .1) };
         same = record {
           state = r;
           queues = levels-as places t r ∙ ap (queuesIn (part a (read S bs) .rank)) two
               ∙ sym (parted-queues (g .paired) (free-low g) (part-is a (read S bs)) (ends .0) (ends .1) (ends .2) (ends .3));
-          draws = omega (arith, both .draws, first .draws, z .0);
-          falls = omega (arith, both .falls, first .falls, z .1);
+          draws = z .0;
+          falls = z .1;
         };
       }

@@ -38,10 +38,10 @@ pub fn part_and_settle(rack: &mut [u8], a: usize, b: usize, words: &[u32]) -> Ta
     ensures { λ r. ⌜ Ended (settled base (now (words .entry)) (startParted a b (read low (now (rack .entry))))) (now (rack .exit)) r ⌝ }
 {
     let mut queue = layout::places();
-    let first = settling::join(&mut queue, a, Tally::new());
+    let first = settling::join(&mut queue, a, 0);
     let both = settling::join(&mut queue, b, first);
     moves::part(rack, a);
-    settling::settle(rack, &mut queue, words, both)
+    settling::settle(rack, &mut queue, words, Tally::new().waits(both))
 }
 
 // All that is left to do, whether the words suffice or not.

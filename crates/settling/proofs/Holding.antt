@@ -19,7 +19,7 @@ use Rattle.theory.proofs.Queues.{mate-mated, mate-inside, lift-paired, pair-pai
 use Rattle.theory.proofs.Waiting.{risen-lists, risen-queues, drawn-lists, drawn-queues, fallen-lists, fallen-queues}
 use Rattle.queue.proofs.Places.{length-first}
 use Rattle.moves.specs.Proper.{ranked}
-use Rattle.settling.specs.Settling.{queueIn, HoldsOnly, HoldsWaitingBut, HoldsWaiting, CanPart, Requeued}
+use Rattle.settling.specs.Settling.{queueIn, HoldsOnly, HoldsWaitingBut, HoldsWaiting, CanPart, QueueIs}
 use Rattle.settling.specs.declared.tally.Tally.{Tally}
 
 -- every member of a list, one by one
@@ -44,7 +44,7 @@ module _ (W : ℕ → Type 0) {places : List ℕ} {t : Tally} {s : State} (wait 
       spare (s .n) z (t .waiting) (queueIn places t) (length-first (t .waiting) places (h .within)) (h .lists .once)
       (λ v m. wait v (h .lists .only v m) .0) inside (λ m. out (h .lists .only z m))
 
-  can-part : (v : ℕ) → (Waits (s .n) (marks s) v → W v) → v < s .n → CanPart s v places t
+  can-part : (v : ℕ) → (Waits (s .n) (marks s) v → W v) → v < s .n → CanPart s v places (t .waiting)
   can-part v known inside = record {
     within = h .within;
     lent = h .room;
@@ -57,11 +57,11 @@ module _ (W : ℕ → Type 0) {places : List ℕ} {t : Tally} {s : State} (wait 
     );
   }
 
-pub holds-part : {places : List ℕ} {t : Tally} {s : State} → HoldsWaiting places t s → (v : ℕ) → v < s .n → CanPart s v places t
+pub holds-part : {places : List ℕ} {t : Tally} {s : State} → HoldsWaiting places t s → (v : ℕ) → v < s .n → CanPart s v places (t .waiting)
 holds-part {s = s} h v b = can-part (Waits (s .n) (marks s)) (λ x w. w) h v (λ w. w) b
 
 module _ {places : List ℕ} {t : Tally} {s : State} (u : ℕ) (h : HoldsWaitingBut u places t s) where
-  pub but-part : (v : ℕ) → v < s .n → v ≢ u → CanPart s v places t
+  pub but-part : (v : ℕ) → v < s .n → v ≢ u → CanPart s v places (t .waiting)
   but-part v b d = can-part (λ x. Waits (s .n) (marks s) x × (x ≢ u)) (λ x w. w .0) h v (λ w. (w, d)) b
 
   pub but-place : u < s .n → t .waiting < s .n
@@ -77,9 +77,9 @@ holds-as W {places} e h = record {
 }
 
 -- The moves, each from the queue before it to the one that its function leaves.
-module _ {places places′ : List ℕ} {t t′ : Tally} {s : State} (long : length places′ ≡ length places) where
+module _ {places places′ : List ℕ} {t : Tally} (t′ : Tally) {s : State} (long : length places′ ≡ length places) where
   -- v is parted and rises
-  module _ {v : ℕ} (h : HoldsWaiting places t s) (q : Requeued (partQueue (marks s) v (queueIn places t)) t places′ t′) (i : ℕ) (b : v < s .n) where
+  module _ {v : ℕ} (h : HoldsWaiting places t s) (q : QueueIs (partQueue (marks s) v (queueIn places t)) places′ (t′ .waiting)) (i : ℕ) (b : v < s .n) where
     pub risen-holds : HoldsWaitingBut v places′ t′ (rise i v (part v s))
     unfolding rise part
     risen-holds = record {
@@ -94,7 +94,7 @@ module _ {places places′ : List ℕ} {t t′ : Tally} {s : State} (long : leng
     risen-levels = rw (q .queue) (sym (sym (queues-part s v (queueIn places t)) ∙ risen-queues (h .paired) (lift-is i v s) (h .lists)))
 
   -- y is parted, rises and is the mate of u, which stands at level i without one
-  module _ {u y : ℕ} (h : HoldsWaitingBut u places t s) (q : Requeued (partQueue (marks s) y (queueIn places t)) t places′ t′) (i : ℕ)
+  module _ {u y : ℕ} (h : HoldsWaitingBut u places t s) (q : QueueIs (partQueue (marks s) y (queueIn places t)) places′ (t′ .waiting)) (i : ℕ)
       (ne : u ≢ y) (hu : s .mate u ≡ u) (ru : s .rank u ≡ suc i) (b : y < s .n) where
     draws : Draw i u y (marks s) (marks (marry u y (rise i y (part y s))))
     draws = record { mid = marks (rise i y (part y s)); up = lift-is i y s; two = marry-is u y (rise i y (part y s)) ne }
@@ -118,15 +118,15 @@ module _ {places places′ : List ℕ} {t t′ : Tally} {s : State} (long : leng
     drawn-levels = rw (q .queue) (sym (sym (queues-part s y (queueIn places t)) ∙ drawn-queues (h .paired) ne hu draws (h .lists)))
 
   -- v is taken from the queue
-  pub left-holds : {v : ℕ} → HoldsWaiting places t s → Requeued (without v (queueIn places t)) t places′ t′ → HoldsWaitingBut v places′ t′ s
+  pub left-holds : {v : ℕ} → HoldsWaiting places t s → QueueIs (without v (queueIn places t)) places′ (t′ .waiting) → HoldsWaitingBut v places′ t′ s
   left-holds {v} h q = record { room = omega (arith, h .room); within = q .within; lists = rw (q .queue) (lists-without v (h .lists)); paired = h .paired }
 
-  pub left-levels : (v : ℕ) → HoldsWaiting places t s → Requeued (without v (queueIn places t)) t places′ t′
+  pub left-levels : (v : ℕ) → HoldsWaiting places t s → QueueIs (without v (queueIn places t)) places′ (t′ .waiting)
       → queuesIn (s .rank) (queueIn places′ t′) ≡ leave v (queuesIn (s .rank) (queueIn places t))
   left-levels v h q = rw (q .queue) (queues-leave (s .rank) v (queueIn places t))
 
   -- v falls from level i
-  module _ {v : ℕ} (h : HoldsWaitingBut v places t s) (i : ℕ) (q : Requeued (joinQueue v i (queueIn places t)) t places′ t′) (b : v < s .n) (m : s .mate v ≡ v) where
+  module _ {v : ℕ} (h : HoldsWaitingBut v places t s) (i : ℕ) (q : QueueIs (joinQueue v i (queueIn places t)) places′ (t′ .waiting)) (b : v < s .n) (m : s .mate v ≡ v) where
     falls : Fall i v (marks s) (marks (ranked v i s))
     unfolding ranked
     falls = record { rank-v = upd-same (s .rank) v i v refl; rank-o = λ x d. upd-other (s .rank) v i x d; mate-o = λ x. refl }

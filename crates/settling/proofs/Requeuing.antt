@@ -10,27 +10,31 @@ use Rattle.model.specs.Moves.{without}
 use Rattle.theory.specs.Waiting.{Marks, joinQueue, partQueue}
 use Rattle.model.proofs.Lists.{without-absent}
 use Rattle.theory.proofs.Arrivals.{joins-none, joins-some, queue-free, queue-mated}
-use Rattle.settling.specs.Settling.{queueIn, Requeued, Room}
+use Rattle.settling.specs.Settling.{QueueIs, Room}
 use Rattle.settling.specs.declared.tally.Tally.{Tally}
 
--- the first k places are l, and k wait
-pub requeued-of : {l places : List ℕ} {t r : Tally} (k : ℕ) → take k places ≡ l → k ≤ length places
-    → (r .draws ≡ t .draws) × (r .falls ≡ t .falls) × (r .waiting ≡ k) → Requeued l t places r
-requeued-of {places = places} k e b w = record {
-  queue = ap (λ (x : ℕ). take x places) (w .2) ∙ e;
-  within = omega (arith, w .2);
-  draws = w .0;
-  falls = w .1;
-}
+-- the same queue, named otherwise, or as many by another name
+pub queue-as : {l l′ places : List ℕ} {k : ℕ} → QueueIs l places k → l ≡ l′ → QueueIs l′ places k
+queue-as q e = record { queue = q .queue ∙ e; within = q .within }
 
-pub requeued-as : {l l′ places : List ℕ} {t r : Tally} → Requeued l t places r → l ≡ l′ → Requeued l′ t places r
-requeued-as q e = record { queue = q .queue ∙ e; within = q .within; draws = q .draws; falls = q .falls }
+pub queue-of : {l places : List ℕ} {k k′ : ℕ} → k′ ≡ k → QueueIs l places k → QueueIs l places k′
+queue-of {places = places} e q = record { queue = ap (λ (x : ℕ). take x places) e ∙ q .queue; within = omega (arith, q .within) }
+
+pub queue-none : {places : List ℕ} {k : ℕ} → k ≤ length places → QueueIs (take k places) places k
+queue-none b = record { queue = refl; within = b }
+
+-- the queue is l then, by the tally t′, and no figure has changed since t
+pub record Requeued (l : List ℕ) (t : Tally) (places : List ℕ) (t′ : Tally) : Type 0 where
+  pub is : QueueIs l places (t′ .waiting)
+  pub draws : t′ .draws ≡ t .draws
+  pub falls : t′ .falls ≡ t .falls
+
+pub requeued-of : {l places : List ℕ} {t r : Tally} {k : ℕ} → QueueIs l places k → (r .draws ≡ t .draws) × (r .falls ≡ t .falls) × (r .waiting ≡ k)
+    → Requeued l t places r
+requeued-of q w = record { is = queue-of (w .2) q; draws = w .0; falls = w .1 }
 
 pub room-as : {l places : List ℕ} {t r : Tally} {d f : ℕ} → Requeued l t places r → Room d f t → Room d f r
 room-as q m = record { draws = omega (arith, q .draws, m .draws); falls = omega (arith, q .falls, m .falls) }
-
-pub requeued-none : {places : List ℕ} {t : Tally} → t .waiting ≤ length places → Requeued (queueIn places t) t places t
-requeued-none b = record { queue = refl; within = b; draws = refl; falls = refl }
 
 -- one of rank 0 stays out, and one of a higher rank joins
 pub join-low : (v i : ℕ) (l : List ℕ) → i ≡ 0 → l ≡ joinQueue v i l

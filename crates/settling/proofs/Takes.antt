@@ -19,11 +19,12 @@ use Rattle.theory.proofs.Matching.{base-pos}
 use Rattle.moves.specs.Proper.{Ordered, Held, RowBelow, ranked}
 use Rattle.moves.proofs.Held.{reads-as, held-of}
 use Rattle.moves.proofs.Keeps.{hand-row, ranked-row}
-use Rattle.settling.specs.Settling.{queueIn, running, HoldsWaitingBut, HoldsWaiting, Requeued, Falling, Left, visited, drawLimit, takeLimit}
+use Rattle.settling.specs.Settling.{queueIn, running, HoldsWaitingBut, HoldsWaiting, Falling, Left, visited, drawLimit, takeLimit}
 use Rattle.settling.specs.declared.tally.Tally.{Tally}
 use Rattle.settling.proofs.Steps.{hand-kept, fall-kept, due-reached}
 use Rattle.settling.proofs.News.{draw-same, fall-same, scanFrom-same, visited-no, upto-none, upto-yes, upto-no}
 use Rattle.settling.proofs.Kept.{SameEdges, SameRun, take-draws, take-falls}
+use Rattle.settling.proofs.Requeuing.{Requeued}
 use Rattle.settling.proofs.Holding.{left-holds, left-levels, fallen-holds, fallen-levels}
 use Rattle.settling.proofs.Written.{Draws, draws-of, levels-as, left-same}
 
@@ -59,7 +60,7 @@ module _ {S : Shape} {bs places : List ℕ} {t : Tally} {i v k : ℕ} {b places�
   handed-holds : HoldsWaitingBut v places′ t′ (handOver i v (read S bs))
   unfolding handOver
   handed-holds =
-      let h : HoldsWaitingBut v places′ t′ (read S bs) = left-holds (a .long) (a .holds) (a .left) in
+      let h : HoldsWaitingBut v places′ t′ (read S bs) = left-holds t′ (a .long) (a .holds) (a .left .is) in
       record { room = h .room; within = h .within; lists = h .lists; paired = h .paired }
 
   pub handed-waits : HoldsWaitingBut v places′ t′ (read S b)
@@ -92,7 +93,7 @@ module _ {S : Shape} {bs places : List ℕ} {t : Tally} {i v k : ℕ} {b places�
   unfolding handOver
   handed-run = record {
     state = handed-read;
-    queues = levels-as places′ t′ handed-read ∙ left-levels (a .long) v (a .holds) (a .left);
+    queues = levels-as places′ t′ handed-read ∙ left-levels t′ (a .long) v (a .holds) (a .left .is);
     draws = a .left .draws;
     falls = a .left .falls;
   }
@@ -150,7 +151,7 @@ module _ {S : Shape} {bs places : List ℕ} {t : Tally} {i v k : ℕ} {b places�
             a .falls .level,
             ranked-row (read S bs) (a .held .proper) i v i (a .falls .row),
           ),
-          (fallen-holds (a .long) (a .holds) i (a .joined) (a .falls .inside) (a .falls .free), omega (arith, a .joined .draws)),
+          (fallen-holds t′ (a .long) (a .holds) i (a .joined .is) (a .falls .inside) (a .falls .free), omega (arith, a .joined .draws)),
         ),
       )
 
@@ -160,7 +161,7 @@ module _ {S : Shape} {bs places : List ℕ} {t : Tally} {i v k : ℕ} {b places�
     unfolding fall ranked
     fallen-run = record {
       state = fallen-read;
-      queues = levels-as places′ t′ fallen-read ∙ fallen-levels (a .long) (a .holds) i (a .joined) (a .falls .inside) (a .falls .free)
+      queues = levels-as places′ t′ fallen-read ∙ fallen-levels t′ (a .long) (a .holds) i (a .joined .is) (a .falls .inside) (a .falls .free)
           ∙ ap (λ (x : ℕ). join v i (queuesIn (read S bs .rank) (first x places))) (e .2);
       draws = omega (arith, a .joined .draws, e .0);
       falls = omega (arith, a .joined .falls, e .1);

@@ -5,7 +5,7 @@ use mathlib.Core.List.{List, []}
 use Prim.Native.Nat.{ℕ, suc, _≤_, _<_}
 use native.Mathlib.Omega.{arith}
 use lib.Dec.{T}
-use lib.ListN.{length, take}
+use lib.ListN.{length}
 use Rattle.model.specs.Shape.{Shape}
 use Rattle.model.specs.State.{base, State, near, below}
 use Rattle.model.specs.Bytes.{phiAt, read, write}
@@ -17,12 +17,13 @@ use Rattle.moves.specs.Proper.{Proper, Ordered, Held, RowBelow, tookOver}
 use Rattle.moves.proofs.Edges.{near-low}
 use Rattle.moves.proofs.Keeps.{part-proper, took-proper, took-row, ranked-row, rise-halves}
 use Rattle.moves.proofs.Held.{reads-as, held-of, held-small, held-phi}
-use Rattle.settling.specs.Settling.{queueIn, running, HoldsWaitingBut, HoldsWaiting, Requeued, Left, drawLimit}
+use Rattle.settling.specs.Settling.{QueueIs, queueIn, running, HoldsWaitingBut, HoldsWaiting, Left, drawLimit}
 use Rattle.settling.specs.declared.tally.Tally.{Tally}
 use Rattle.settling.proofs.Steps.{SameEdges, lift-below, lift-kept, near-inside, near-other}
 use Rattle.settling.proofs.News.{SameRun, draw-same}
 use Rattle.settling.proofs.Entries.{level-small}
-use Rattle.settling.proofs.Holding.{holds-as, risen-holds, risen-levels, drawn-holds, drawn-levels}
+use Rattle.settling.proofs.Requeuing.{Requeued, queue-of}
+use Rattle.settling.proofs.Holding.{risen-holds, risen-levels, drawn-holds, drawn-levels}
 
 -- the queues that a queue makes of another state's ranks
 pub levels-as : (places : List ℕ) (t : Tally) {s s′ : State} → s ≡ s′ → queuesIn (s .rank) (queueIn places t) ≡ queuesIn (s′ .rank) (queueIn places t)
@@ -128,7 +129,7 @@ module _ {S : Shape} {bs : List ℕ} {i v : ℕ} (a : Rising S bs i v) {b : List
                 omega (arith, lift-below (read S bs) (a .held .proper) (a .ordered) i v (a .inside)),
                 g ∙ lifted-count,
               ),
-              (risen-holds long h q i (a .inside), omega (arith, q .draws)),
+              (risen-holds t′ long h (q .is) i (a .inside), omega (arith, q .draws)),
             ),
           ),
         )
@@ -139,7 +140,7 @@ module _ {S : Shape} {bs : List ℕ} {i v : ℕ} (a : Rising S bs i v) {b : List
     promoted-left words c =
         let same : SameRun (running S b places′ t′) (lifted i v (running S bs places t)) = record {
           state = lifted-read e;
-          queues = levels-as places′ t′ (lifted-read e) ∙ risen-levels long h q i (a .inside);
+          queues = levels-as places′ t′ (lifted-read e) ∙ risen-levels t′ long h (q .is) i (a .inside);
           draws = q .draws;
           falls = q .falls;
         } in
@@ -175,17 +176,16 @@ module _ {S : Shape} {bs : List ℕ} {i u y : ℕ} (a : Drawing S bs i u y) {b :
     subst (λ (s : State). (u < s .n) × (y < s .n) × (u ≢ y)) (sym (lifted-read (a .rising) e)) (a .inside, a .rising .inside, drawing-other a),
   )
 
-  module _ {places places′ : List ℕ} {t t′ : Tally} (h : HoldsWaitingBut u places t (read S bs))
-      (q : Requeued (partQueue (marks (read S bs)) y (queueIn places t)) t places′ t′) (long : length places′ ≡ length places) where
+  module _ {places places′ : List ℕ} {t : Tally} {k : ℕ} (h : HoldsWaitingBut u places t (read S bs))
+      (q : QueueIs (partQueue (marks (read S bs)) y (queueIn places t)) places′ k) (long : length places′ ≡ length places) where
     pub drawn-left : (words : List ℕ) {d : List ℕ} {r : Tally} → y ≡ chosen words i u (running S bs [] t) → d ≡ write (marry u y (read S b))
-        → (r .draws ≡ spent words i u (running S bs [] t)) × (r .falls ≡ t′ .falls) × (r .waiting ≡ t′ .waiting) → Left (draw words i u (running S bs places t)) d places′ r
+        → (r .draws ≡ spent words i u (running S bs [] t)) × (r .falls ≡ t .falls) × (r .waiting ≡ k) → Left (draw words i u (running S bs places t)) d places′ r
     unfolding draw drawn chosen spent
     drawn-left words {d} {r} c f g =
         subst (λ (x : ℕ). Left (drawn i u x (spent words i u (running S bs places t)) (running S bs places t)) d places′ r) c (record {
           rack = f ∙ ap (λ (s : State). write (marry u y s)) (lifted-read (a .rising) e);
-          queues = ap (λ (k : ℕ). queuesIn (marry u y (rise i y (part y (read S bs))) .rank) (take k places′)) (g .2)
-              ∙ drawn-levels long h q i (drawing-other a) (a .free) (a .rank) (a .rising .inside);
+          queues = drawn-levels r long h (queue-of (g .2) q) i (drawing-other a) (a .free) (a .rank) (a .rising .inside);
           draws = g .0;
-          falls = omega (arith, g .1, q .falls);
-          holds = holds-as _ (g .2) (drawn-holds long h q i (drawing-other a) (a .free) (a .rank) (a .rising .inside));
+          falls = g .1;
+          holds = drawn-holds r long h (queue-of (g .2) q) i (drawing-other a) (a .free) (a .rank) (a .rising .inside);
         })

@@ -46,21 +46,19 @@ HoldsWaiting places t s = HoldsOnly (Waits (s .n) (marks s)) places t s
 abbrev pub HoldsWaitingBut : ℕ → List ℕ → Tally → State → Type 0
 HoldsWaitingBut u places t s = HoldsOnly (λ v. Waits (s .n) (marks s) v × (v ≢ u)) places t s
 
--- v can be parted: without a mate it stands in the queue exactly if it waits, and for a mate there is a place
-pub record CanPart (s : State) (v : ℕ) (places : List ℕ) (t : Tally) : Type 0 where
-  pub within : t .waiting ≤ length places
-  pub once : Distinct (queueIn places t)
-  pub stands : s .mate v ≡ v → 1 ≤ s .rank v → Mem v (queueIn places t)
-  pub absent : s .rank v ≡ 0 → Mem v (queueIn places t) → ⊥
+-- v can be parted, where k wait: without a mate it stands in the queue exactly if it waits, and for a mate there is a place
+pub record CanPart (s : State) (v : ℕ) (places : List ℕ) (k : ℕ) : Type 0 where
+  pub within : k ≤ length places
+  pub once : Distinct (take k places)
+  pub stands : s .mate v ≡ v → 1 ≤ s .rank v → Mem v (take k places)
+  pub absent : s .rank v ≡ 0 → Mem v (take k places) → ⊥
   pub lent : s .n ≤ length places
-  pub room : s .mate v ≢ v → (1 ≤ s .rank (s .mate v)) × (t .waiting < s .n)
+  pub room : s .mate v ≢ v → (1 ≤ s .rank (s .mate v)) × (k < s .n)
 
--- the queue is l then, and no figure changes
-pub record Requeued (l : List ℕ) (t : Tally) (places : List ℕ) (t′ : Tally) : Type 0 where
-  pub queue : queueIn places t′ ≡ l
-  pub within : t′ .waiting ≤ length places
-  pub draws : t′ .draws ≡ t .draws
-  pub falls : t′ .falls ≡ t .falls
+-- the queue is l, and k wait
+pub record QueueIs (l places : List ℕ) (k : ℕ) : Type 0 where
+  pub queue : take k places ≡ l
+  pub within : k ≤ length places
 
 -- v, which is free, can fall from level i: it owns edges to vertices below i alone, k of them
 pub record Falling (S : Shape) (bs : List ℕ) (i v k : ℕ) : Type 0 where

@@ -11,7 +11,7 @@ ghost use Rattle.model.specs.Bytes.{read, write};
 ghost use Rattle.model.specs.Moves.{part as parted, rise as risen, draw as drawn, promote as promoted, without, fall as fallen, scanFrom, take as taken, pick as picked, settle as settled};
 ghost use Rattle.theory.specs.Waiting.{marks, queuesIn, joinQueue, partQueue};
 ghost use Rattle.moves.specs.Proper.{Ordered, Held, RowBelow};
-ghost use Rattle.settling.specs.Settling.{queueIn, running, HoldsWaitingBut, HoldsWaiting, CanPart, Requeued, Falling, Room, Left, visited, foundBy, drawLimit, fallLimit, takeLimit};
+ghost use Rattle.settling.specs.Settling.{QueueIs, running, HoldsWaitingBut, HoldsWaiting, CanPart, Falling, Room, Left, visited, foundBy, drawLimit, fallLimit, takeLimit};
 
 pub mod tally;
 
@@ -23,53 +23,53 @@ pub enum Choice {
     Nothing,
 }
 
-// v joins the end of the queue.
-pub fn join(queue: &mut [u16], v: usize, tally: Tally) -> Tally
-    requires { ⌜ (tally .waiting < length (now queue)) × (tally .waiting < 65536) × (v < 65536) ⌝ }
-    ensures { λ r. ⌜ Requeued (queueIn (now (queue .entry)) tally ++ (v ∷ [])) tally (now (queue .exit)) r ⌝ }
+// v joins the end of the queue, in which so many wait; the answer is how many wait then, here and below.
+pub fn join(queue: &mut [u16], v: usize, waiting: u32) -> u32
+    requires { ⌜ (waiting < length (now queue)) × (waiting < 65536) × (v < 65536) ⌝ }
+    ensures { λ r. ⌜ QueueIs (front waiting (now (queue .entry)) ++ (v ∷ [])) (now (queue .exit)) r ⌝ }
 {
-    queue::join(queue, tally.waiting as usize, v);
-    tally.waits(tally.waiting + 1)
+    queue::join(queue, waiting as usize, v);
+    waiting + 1
 }
 
 // v leaves the queue, in which it stands.
-fn leave(queue: &mut [u16], v: usize, tally: Tally) -> Tally
-    requires { ⌜ tally .waiting ≤ length (now queue) ⌝ }
-    requires { ⌜ (Distinct (queueIn (now queue) tally)) × (Mem v (queueIn (now queue) tally)) ⌝ }
-    ensures { λ r. ⌜ Requeued (without v (queueIn (now (queue .entry)) tally)) tally (now (queue .exit)) r ⌝ }
+fn leave(queue: &mut [u16], v: usize, waiting: u32) -> u32
+    requires { ⌜ waiting ≤ length (now queue) ⌝ }
+    requires { ⌜ (Distinct (front waiting (now queue))) × (Mem v (front waiting (now queue))) ⌝ }
+    ensures { λ r. ⌜ QueueIs (without v (front waiting (now (queue .entry)))) (now (queue .exit)) r ⌝ }
 {
-    queue::leave(queue, tally.waiting as usize, v);
-    tally.waits(tally.waiting - 1)
+    queue::leave(queue, waiting as usize, v);
+    waiting - 1
 }
 
 // v is about to be parted and to rise: its mate joins the queue, and a v without a mate is in it no longer.
-fn requeue(rack: &[u8], queue: &mut [u16], v: usize, tally: Tally) -> Tally
+fn requeue(rack: &[u8], queue: &mut [u16], v: usize, waiting: u32) -> u32
     requires { ⌜ (Held low (now rack)) × (v < read low (now rack) .n) ⌝ }
-    requires { ⌜ CanPart (read low (now rack)) v (now queue) tally ⌝ }
-    ensures { λ r. ⌜ Requeued (partQueue (marks (read low (now (rack .entry)))) v (queueIn (now (queue .entry)) tally)) tally (now (queue .exit)) r ⌝ }
+    requires { ⌜ CanPart (read low (now rack)) v (now queue) waiting ⌝ }
+    ensures { λ r. ⌜ QueueIs (partQueue (marks (read low (now (rack .entry)))) v (front waiting (now (queue .entry)))) (now (queue .exit)) r ⌝ }
 {
     let m = layout::mate(rack, v);
     if m != layout::NO_MATE {
-        return join(queue, m as usize, tally);
+        return join(queue, m as usize, waiting);
     }
     if layout::rank(rack, v) == 0 {
-        return tally;
+        return waiting;
     }
-    leave(queue, v, tally)
+    leave(queue, v, waiting)
 }
 
 // v loses its mate if it has one, which joins the queue, and rises to i.
-fn lift(rack: &mut [u8], queue: &mut [u16], v: usize, i: usize, tally: Tally) -> Tally
+fn lift(rack: &mut [u8], queue: &mut [u16], v: usize, i: usize, waiting: u32) -> u32
     requires { ⌜ (Held low (now rack)) × (Ordered (read low (now rack))) ⌝ }
     requires { ⌜ (v < read low (now rack) .n) × (read low (now rack) .rank v ≤ i) × (i ≤ base .top) ⌝ }
-    requires { ⌜ CanPart (read low (now rack)) v (now queue) tally ⌝ }
+    requires { ⌜ CanPart (read low (now rack)) v (now queue) waiting ⌝ }
     ensures { λ _. ⌜ now (rack .exit) ≡ write (risen i v (parted v (read low (now (rack .entry))))) ⌝ }
-    ensures { λ r. ⌜ Requeued (partQueue (marks (read low (now (rack .entry)))) v (queueIn (now (queue .entry)) tally)) tally (now (queue .exit)) r ⌝ }
+    ensures { λ r. ⌜ QueueIs (partQueue (marks (read low (now (rack .entry)))) v (front waiting (now (queue .entry)))) (now (queue .exit)) r ⌝ }
 {
-    let t = requeue(rack, queue, v, tally);
+    let then = requeue(rack, queue, v, waiting);
     moves::part(rack, v);
     moves::rise(rack, v, i);
-    t
+    then
 }
 
 // "Draw at u, level i", once u's row holds exactly its neighbours below i, k of them: trailing zeros lead to the place that the word gives.
@@ -90,9 +90,10 @@ fn draw(
 {
     let by = drawing::decide(words, tally.draws as usize, k);
     let y = layout::nth_owned(rack, u, by.place);
-    let t = lift(rack, queue, y, i, tally);
+    let waiting = lift(rack, queue, y, i, tally.waiting);
     moves::pair(rack, u, y);
-    t.drew(by.number as u64 + 1)
+    let t = tally.drew(by.number as u64 + 1);
+    t.waits(waiting)
 }
 
 // "loses its mate if it has one, rises to i and draws": its count at i says among how many.
@@ -110,8 +111,8 @@ pub fn promote(
     ensures { λ r. ⌜ Left (promoted (now (words .entry)) i u (running low (now (rack .entry)) (now (queue .entry)) tally)) (now (rack .exit)) (now (queue .exit)) r ⌝ }
 {
     let k = layout::phi(rack, u, i) as usize;
-    let t = lift(rack, queue, u, i, tally);
-    draw(rack, queue, words, u, i, k, t)
+    let waiting = lift(rack, queue, u, i, tally.waiting);
+    draw(rack, queue, words, u, i, k, tally.waits(waiting))
 }
 
 // A vertex's turn in the scan: "each one that is below i with a count at i of at least 4^i" is promoted.
@@ -163,14 +164,14 @@ fn scan(
 }
 
 // v, which falls from level i, joins the end of its new level; at level -1 nobody waits.
-fn rejoin(queue: &mut [u16], v: usize, i: usize, tally: Tally) -> Tally
-    requires { ⌜ (tally .waiting < length (now queue)) × (tally .waiting < 65536) × (v < 65536) ⌝ }
-    ensures { λ r. ⌜ Requeued (joinQueue v i (queueIn (now (queue .entry)) tally)) tally (now (queue .exit)) r ⌝ }
+fn rejoin(queue: &mut [u16], v: usize, i: usize, waiting: u32) -> u32
+    requires { ⌜ (waiting < length (now queue)) × (waiting < 65536) × (v < 65536) ⌝ }
+    ensures { λ r. ⌜ QueueIs (joinQueue v i (front waiting (now (queue .entry)))) (now (queue .exit)) r ⌝ }
 {
     if i == 0 {
-        return tally;
+        return waiting;
     }
-    join(queue, v, tally)
+    join(queue, v, waiting)
 }
 
 // "If not, v falls to i-1", with k neighbours below i: "A board that falls joins the end of its new level before any rise that follows the
@@ -190,7 +191,9 @@ fn fall(
     ensures { λ r. ⌜ Left (scanFrom base (now (words .entry)) i v (fallen i v (running low (now (rack .entry)) (now (queue .entry)) tally))) (now (rack .exit)) (now (queue .exit)) r ⌝ }
 {
     let low = moves::fall(rack, v, i, k);
-    let t = rejoin(queue, v, i, tally.fell());
+    let fell = tally.fell();
+    let waiting = rejoin(queue, v, i, fell.waiting);
+    let t = fell.waits(waiting);
     if low {
         return t;
     }
@@ -211,7 +214,8 @@ fn take(
     requires { ⌜ (HoldsWaiting (now queue) tally (read low (now rack))) × (Room (takeLimit low) fallLimit tally) ⌝ }
     ensures { λ r. ⌜ Left (taken base (now (words .entry)) i v (running low (now (rack .entry)) (now (queue .entry)) tally)) (now (rack .exit)) (now (queue .exit)) r ⌝ }
 {
-    let t = leave(queue, v, tally);
+    let waiting = leave(queue, v, tally.waiting);
+    let t = tally.waits(waiting);
     let k = moves::hand_over(rack, v, i).below;
     if layout::threshold(i) as usize <= k {
         return draw(rack, queue, words, v, i, k, t);

@@ -82,6 +82,9 @@ add-drew c =
 drew-requires : tie.Need-drew-requires
 drew-requires c κs = search needs
 
+waits-requires : tie.Need-waits-requires
+waits-requires c κs = search needs
+
 same-length : tie.Need-same-length
 same-length c = search needs
 
@@ -97,11 +100,13 @@ spent-is c e =
 
 returns : tie.Need-returns
 returns c =
-    let l = c .before .before .before .before .before .before .before .before .before in
+    let d = c .before in
+    let p = d .before .before .before in
+    let l = p .before .before .before .before .before .before in
     let y = chose l in
-    let d = c .drew .ensures in
+    let w = c .waits .ensures in
     drawn-left (drawing y) (l .lift .ensures .0) (start y .pre .1 .1 .1 .0) (l .lift .ensures .1) (l .lift .kept .1 .0) (start y .args .words .now)
-    (chosen-is y .0) (c .before .before .before .pair .ensures) (spent-is y (omega (arith, d .0)), d .1, d .2)
+    (chosen-is y .0) (p .pair .ensures) (spent-is y (omega (arith, w .0, d .drew .ensures .0)), w .1 ∙ d .drew .ensures .1, w .2)
 
 pub draw-spec : {M : Type 1} → statement M
 draw-spec =
@@ -113,6 +118,7 @@ draw-spec =
     pair-requires
     add-drew
     drew-requires
+    waits-requires
     same-length
     same-length-2
     returns)

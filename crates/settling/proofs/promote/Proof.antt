@@ -3,6 +3,7 @@ use borrow.Author.Needs.{needs}
 use Rattle.model.specs.Shape.{low}
 use Rattle.moves.proofs.Held.{held-sized, held-small}
 use Rattle.settling.proofs.Entries.{level-small}
+use Rattle.settling.proofs.Requeuing.{requeued-of}
 use Rattle.settling.proofs.Holding.{holds-part}
 use Rattle.settling.proofs.Written.{Rising, lifted-draws, promoted-left}
 use Rattle.settling.proofs.promote.Statement.{statement}
@@ -32,12 +33,19 @@ lift-requires c κs =
     let a = rising s in
     (s .pre .0, ((a .inside, a .low, a .level), holds-part (s .pre .1 .1 .0) _ (a .inside)))
 
+waits-requires : tie.Need-waits-requires
+waits-requires c κs = search needs
+
+abbrev lifted : tie.After-waits → tie.After-lift
+lifted c = c .before .before .before .before .before .before .before
+
 draw-requires : tie.Need-draw-requires
 draw-requires c κs =
-    let l = c .before .before .before .before .before .before in
+    let l = lifted c in
     let p = counted l in
     let s = start p in
-    lifted-draws (rising s) (l .lift .ensures .0) (s .pre .1 .1 .0) (l .lift .ensures .1) (l .lift .kept .1 .0) (p .phi .result)
+    let q = requeued-of (l .lift .ensures .1) (c .waits .ensures) in
+    lifted-draws (rising s) (l .lift .ensures .0) (s .pre .1 .1 .0) q (l .lift .kept .1 .0) (p .phi .result)
     (s .pre .1 .0 .3) (s .pre .1 .1 .1) (p .phi .ensures)
 
 same-length : tie.Need-same-length
@@ -49,10 +57,10 @@ same-length-2 c = search needs
 returns : tie.Need-returns
 returns c =
     let d = c .before .before .before .before in
-    let l = d .before .before .before .before .before .before .before in
+    let l = lifted (d .before) in
     let s = start (counted l) in
-    promoted-left (rising s) (l .lift .ensures .0) (s .pre .1 .1 .0) (l .lift .ensures .1) (l .lift .kept .1 .0) (s .args .words .now)
-    (d .draw .ensures)
+    let q = requeued-of (l .lift .ensures .1) (d .before .waits .ensures) in
+    promoted-left (rising s) (l .lift .ensures .0) (s .pre .1 .1 .0) q (l .lift .kept .1 .0) (s .args .words .now) (d .draw .ensures)
 
 pub promote-spec : {M : Type 1} → statement M
-promote-spec = tie.close (tie.spec phi-requires cast-k lift-requires draw-requires same-length same-length-2 returns)
+promote-spec = tie.close (tie.spec phi-requires cast-k lift-requires waits-requires draw-requires same-length same-length-2 returns)

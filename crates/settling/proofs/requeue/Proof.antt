@@ -7,7 +7,7 @@ use Rattle.model.specs.Bytes.{read}
 use Rattle.theory.specs.Waiting.{marks}
 use Rattle.moves.proofs.Held.{held-sized, held-small, held-rank}
 use Rattle.settling.proofs.Entries.{entry-free, entry-paired}
-use Rattle.settling.proofs.Requeuing.{requeued-as, requeued-none, part-mated, part-free, part-low}
+use Rattle.settling.proofs.Requeuing.{queue-as, queue-none, part-mated, part-free, part-low}
 use Rattle.settling.proofs.requeue.Statement.{statement}
 use Rattle.settling.proofs.requeue.Tie as tie
 
@@ -42,7 +42,7 @@ returns c =
     let p = s .pre in
     let e = entry-paired (s .args .rack .now) (p .0 .0) (s .args .v) (p .0 .1) (m .mate .result) (m .mate .ensures)
     (λ z. omega (arith, z, t .if1 .taken)) in
-    requeued-as (c .before .before .join .ensures)
+    queue-as (c .before .before .join .ensures)
     (part-mated (marks (read low (s .args .rack .now))) (s .args .v) _ (m .mate .result) (e .0) (e .1) (p .1 .room (e .0) .0))
 
 -- v is free
@@ -63,7 +63,7 @@ returns-2 : tie.Need-returns-2
 returns-2 c =
     let r = c .before in
     let s = start (r .before .before) in
-    requeued-as (requeued-none (s .pre .1 .within))
+    queue-as (queue-none (s .pre .1 .within))
     (part-low (marks (read low (s .args .rack .now))) (s .args .v) _ (free (r .before)) (s .pre .1 .absent (omega (arith, ranked r, c .if2 .taken))))
 
 leave-requires : tie.Need-leave-requires
@@ -79,7 +79,7 @@ returns-3 : tie.Need-returns-3
 returns-3 c =
     let e = c .before .before .before .before .before .before in
     let s = start (e .before) in
-    requeued-as (c .before .before .leave .ensures) (part-free (marks (read low (s .args .rack .now))) (s .args .v) _ (free e))
+    queue-as (c .before .before .leave .ensures) (part-free (marks (read low (s .args .rack .now))) (s .args .v) _ (free e))
 
 pub requeue-spec : {M : Type 1} → statement M
 requeue-spec =

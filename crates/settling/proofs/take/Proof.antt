@@ -4,14 +4,17 @@ use native.Mathlib.Omega.{arith}
 use borrow.Author.Needs.{needs}
 use Rattle.model.specs.Shape.{low}
 use Rattle.model.specs.State.{base}
-use Rattle.settling.proofs.Requeuing.{room-as}
+use Rattle.settling.proofs.Requeuing.{requeued-of, room-as}
 use Rattle.settling.proofs.Takes.{Handed, handed-held, handed-waits, handed-falls, handed-draws, taken-draws, taken-falls}
 use Rattle.settling.proofs.take.Statement.{statement}
 use Rattle.settling.proofs.take.Tie as tie
 
 -- the places, each from a later one
+abbrev tallied : tie.After-hand-over → tie.After-waits
+tallied c = c .before .before
+
 abbrev left : tie.After-hand-over → tie.After-leave
-left c = c .before .before .before .before
+left c = tallied c .before .before .before
 
 abbrev start : tie.After-leave → tie.Start
 start c = c .before .before .before .before .before
@@ -20,7 +23,7 @@ handed : (c : tie.After-hand-over) →
     let l = left c in
     let a = start l .args in
     Handed low (a .rack .now) (a .queue .now) (a .tally) (a .i) (a .v) (c .hand-over .result .below) (c .hand-over .last .0) (l .leave .last .0)
-    (l .leave .result)
+    (tallied c .waits .result)
 handed c =
     let l = left c in
     let s = start l in
@@ -32,7 +35,7 @@ handed c =
       rank = s .pre .1 .0 .2;
       level = s .pre .1 .0 .3;
       holds = s .pre .1 .1 .0;
-      left = l .leave .ensures;
+      left = requeued-of (l .leave .ensures) (tallied c .waits .ensures);
       long = l .leave .kept .0;
       bytes = c .hand-over .ensures .0;
       size = c .hand-over .ensures .1 .1;
@@ -44,6 +47,9 @@ leave-requires c κs =
     let h = p .1 .1 .0 in
     let v = p .1 .0 in
     (h .within, (h .lists .once, h .lists .whole _ (v .0, (v .1, omega (arith, v .2)))))
+
+waits-requires : tie.Need-waits-requires
+waits-requires c κs = search needs
 
 -- the hand-over, seen from the test
 abbrev after : tie.After-threshold → tie.After-hand-over
@@ -107,6 +113,7 @@ take-spec =
     tie.close
     (tie.spec
     leave-requires
+    waits-requires
     hand-over-requires
     threshold-requires
     cast-if1

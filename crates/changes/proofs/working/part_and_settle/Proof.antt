@@ -15,14 +15,11 @@ places-requires c κs = search needs
 slice-aggregate-join : tie.Need-slice-aggregate-join
 slice-aggregate-join c = search needs
 
-new-requires : tie.Need-new-requires
-new-requires c κs = search needs
-
 -- the places, each from a later one
 abbrev begin : tie.After-places → tie.Start
 begin c = c .before .before .before
 
-abbrev lent : tie.After-new → tie.After-places
+abbrev lent : tie.After-join → tie.After-places
 lent c = c .before .before
 
 abbrev joined : tie.After-join2 → tie.After-join
@@ -33,9 +30,8 @@ parted c = c .before .before .before
 
 join-requires : tie.Need-join-requires
 join-requires c κs =
-    let s = begin (lent c) in
-    let h = s .pre .0 .held in
-    (omega (arith, c .new .ensures .2, lent c .places .ensures), omega (arith, c .new .ensures .2), omega (arith, s .pre .1 .0, h .proper .few))
+    let s = begin (c .before) in
+    (omega (arith, c .before .places .ensures), omega arith, omega (arith, s .pre .1 .0, s .pre .0 .held .proper .few))
 
 slice-aggregate-join-2 : tie.Need-slice-aggregate-join-2
 slice-aggregate-join-2 c = search needs
@@ -43,45 +39,51 @@ slice-aggregate-join-2 c = search needs
 join-requires-2 : tie.Need-join-requires-2
 join-requires-2 c κs =
     let j = c .before .before in
-    let l = lent (j .before) in
-    let h = begin l .pre .0 .held in
-    let one =
-    one-waits (l .places .result) (j .join .last .0) (begin l .args .a) (j .before .new .result) (j .join .result) (j .before .new .ensures) (j .join .ensures) in (
-      omega (arith, one, j .join .kept .0, l .places .ensures),
+    let s = begin (lent j) in
+    let one = one-waits (j .join .last .0) (s .args .a) (j .join .result) (j .join .ensures) in (
+      omega (arith, one, j .join .kept .0, lent j .places .ensures),
       omega (arith, one),
-      omega (arith, begin l .pre .1 .1, h .proper .few),
+      omega (arith, s .pre .1 .1, s .pre .0 .held .proper .few),
     )
 
 part-requires : tie.Need-part-requires
-part-requires c κs = let s = begin (lent (joined (c .before .before) .before)) in (s .pre .0 .held, s .pre .1 .0)
+part-requires c κs = let s = begin (lent (joined (c .before .before))) in (s .pre .0 .held, s .pre .1 .0)
 
 slice-aggregate-settle : tie.Need-slice-aggregate-settle
 slice-aggregate-settle c = search needs
 
+new-requires : tie.Need-new-requires
+new-requires c κs = search needs
+
+waits-requires : tie.Need-waits-requires
+waits-requires c κs = search needs
+
 -- where the parting leaves the run
-next : (c : tie.After-part) →
-    let w = parted c in
-    let a = begin (lent (joined w .before)) .args in
-    Onward low (a .words .now) (startParted (a .a) (a .b) (read low (a .rack .now))) (c .part .last .0) (w .join2 .last .0) (w .join2 .result)
+abbrev apart : tie.After-waits → tie.After-part
+apart c = c .before .before .before .before .before .before
+
+next : (c : tie.After-waits) →
+    let p = apart c in
+    let w = parted p in
+    let a = begin (lent (joined w)) .args in
+    Onward low (a .words .now) (startParted (a .a) (a .b) (read low (a .rack .now))) (p .part .last .0) (w .join2 .last .0) (c .waits .result)
 next c =
-    let w = parted c in
+    let w = parted (apart c) in
     let j = joined w in
-    let l = lent (j .before) in
-    let s = begin l in
-    parted-next (s .pre .0) (s .pre .1) (l .places .result) (j .join .last .0) (j .before .new .result) (j .join .result) (j .before .new .ensures)
-    (w .join2 .kept .0 ∙ j .join .kept .0 ∙ l .places .ensures) (j .join .ensures) (w .join2 .ensures) (s .args .words .now)
-    (c .part .ensures)
+    let s = begin (lent j) in
+    let t = c .waits .ensures in
+    let z = c .before .new .ensures in
+    parted-next (s .pre .0) (s .pre .1) (j .join .last .0) (w .join2 .kept .0 ∙ j .join .kept .0 ∙ lent j .places .ensures) (j .join .ensures)
+    (w .join2 .ensures) (t .0 ∙ z .0, t .1 ∙ z .1, t .2) (s .args .words .now) (apart c .part .ensures)
 
 settle-requires : tie.Need-settle-requires
-settle-requires c κs = let n = next (c .before .before .before .before) in ((n .held, n .ordered), (n .holds, n .room))
+settle-requires c κs = let n = next c in ((n .held, n .ordered), (n .holds, n .room))
 
 same-length : tie.Need-same-length
 same-length c = search needs
 
 returns : tie.Need-returns
-returns c =
-    let x = c .before .before .before in
-    settled-on _ (next (x .before .before .before .before .before)) (x .settle .ensures)
+returns c = let x = c .before .before .before in settled-on _ (next (x .before)) (x .settle .ensures)
 
 pub part-and-settle-spec : {M : Type 1} → statement M
 part-and-settle-spec =
@@ -89,12 +91,13 @@ part-and-settle-spec =
     (tie.spec
     places-requires
     slice-aggregate-join
-    new-requires
     join-requires
     slice-aggregate-join-2
     join-requires-2
     part-requires
     slice-aggregate-settle
+    new-requires
+    waits-requires
     settle-requires
     same-length
     returns)
