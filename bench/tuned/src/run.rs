@@ -90,9 +90,8 @@ fn one(rack: &mut RackBytes, step: &Step, pairs: &mut u32) -> Answer {
         Ok(ends) => ends,
         Err(number) => return Answer::refused(number),
     };
-    let enough = |rack: &RackBytes, most: usize| {
-        step.words.number >= most.min(vertices(rack) / 2) && !step.words.high
-    };
+    // The words were looked at as they were read, so that their number is all to ask.
+    let enough = |rack: &RackBytes, _| step.words.number >= vertices(rack) / 2 && !step.words.high;
     let answer = made(rack, step.code, ends, step.drawn, enough, *pairs);
     if answer.number == 0 {
         *pairs = answer.pairs;

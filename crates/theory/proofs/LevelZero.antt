@@ -1,5 +1,5 @@
--- A change on level 0: whoever is drawn there is free, so that nobody comes to wait, and whoever falls from there has no neighbour to scan. So those
--- who wait on level 0 make a new pair each at most: a rise to level 0 makes one, and a pair parted there two at most. Assumes nothing.
+-- A change at level 0: whoever is drawn there is free, so that nobody comes to wait, and whoever falls from there has no neighbour to scan. So those
+-- who wait at level 0 make a new pair each at most: a rise to level 0 makes one, and a pair parted there two at most. Assumes nothing.
 use mathlib.Core.Path.{_≡_, refl, sym, ap}
 use mathlib.Core.Logic.{inl, inr}
 use mathlib.Core.Bool.{Bool}
@@ -40,9 +40,9 @@ without-less v (w ∷ l) m = elim (eq? w v) [
   | inr d ↦ rw (without-no v w l d) (elim m [ inl e ↦ absurd (d (sym e)) | inr k ↦ omega (arith, without-less v l k) ])
 ]
 
--- the new pairs so far, and those who wait on level 0
-abbrev pub paired : Run → ℕ
-paired r = length (r .news) + length (r .queues 0)
+-- the new pairs so far, and those who wait at level 0
+abbrev pub pairsComing : Run → ℕ
+pairsComing r = length (r .news) + length (r .queues 0)
 
 -- nothing to scan
 scan-none : (R : Rules) (words : List ℕ) (i : ℕ) (l : List ℕ) (r : Run) → length l < 1 → scan R words i l r ≡ r
@@ -51,9 +51,9 @@ scan-none R words i [] r h = refl
 scan-none R words i (w ∷ l) r h = absurd (omega arith)
 
 module _ (P : Setting) (E : Simple (P .n) (P .edge)) (pos : (j : ℕ) → 1 ≤ P .thr j) (words : List ℕ) where
-  -- a draw on level 0 lets nobody wait
+  -- a draw at level 0 lets nobody wait
   draw-zero : {m : ℕ} {Q : List ℕ} (u : ℕ) (r : Run) → Inv P m Q (marks (r .state)) → Draws P 0 u (chosen words 0 u r) (marks (r .state))
-      → paired (draw words 0 u r) ≤ suc (paired r)
+      → pairsComing (draw words 0 u r) ≤ suc (pairsComing r)
   unfolding draw drawn leave
   draw-zero u r I c =
       let y : ℕ = chosen words 0 u r in
@@ -63,7 +63,7 @@ module _ (P : Setting) (E : Simple (P .n) (P .edge)) (pos : (j : ℕ) → 1 ≤ 
   -- the riser, which was free, has drawn: one new pair, and nobody waits
   pub rise-zero : {m k : ℕ} {Q Q′ : List ℕ} {P₀ : Setting} (u : ℕ) (s : State) → Inv P₀ k Q′ (marks s) → s .rank u ≤ 0
       → Inv P m Q (marks (lifted 0 u (start s) .state)) → Draws P 0 u (chosen words 0 u (lifted 0 u (start s))) (marks (lifted 0 u (start s) .state))
-      → paired (promote words 0 u (start s)) ≤ 1
+      → pairsComing (promote words 0 u (start s)) ≤ 1
   unfolding promote start leave without
   rise-zero u s I l J c =
       let e : parting s u (λ j. []) ≡ leave u (λ j. []) = parting-free s u (λ j. []) (low-free I u l) in
@@ -86,9 +86,9 @@ module _ (P : Setting) (E : Simple (P .n) (P .edge)) (pos : (j : ℕ) → 1 ≤ 
           listed-length o (P .n),
         )
 
-    -- who is taken on level 0 waits no more, and makes one new pair or none
+    -- who is taken at level 0 waits no more, and makes one new pair or none
     take-zero : (v : ℕ) (r : Run) → Good P 1 [] r → v < P .n → r .state .mate v ≡ v → r .state .rank v ≡ 1
-        → paired (take (rules P) words 0 v r) ≤ paired r
+        → pairsComing (take (rules P) words 0 v r) ≤ pairsComing r
     unfolding fall handOver scanFrom leave join
     take-zero v r G b hv lv =
         let w : length (without v (r .queues 0)) < length (r .queues 0) = without-less v (r .queues 0) (queue-whole (G .queued) 0 v (b, (hv, lv))) in
@@ -105,13 +105,13 @@ module _ (P : Setting) (E : Simple (P .n) (P .edge)) (pos : (j : ℕ) → 1 ≤ 
               ) (omega arith)
         ]
 
-    settleIn-zero : (f : ℕ) (r : Run) → Good P 1 [] r → length (settleIn (rules P) words f r .news) ≤ paired r
+    settleIn-zero : (f : ℕ) (r : Run) → Good P 1 [] r → length (settleIn (rules P) words f r .news) ≤ pairsComing r
     unfolding settleIn
     settleIn-zero zero r G = omega arith
     settleIn-zero (suc f) r G = go (settleIn-zero f) (pick (suc (P .top)) (r .queues)) (good-highest P r G (suc (P .top)))
       where
-        go : ((r₁ : Run) → Good P 1 [] r₁ → length (settleIn (rules P) words f r₁ .news) ≤ paired r₁) → (x : Found) → Highest (r .state) (suc (P .top)) x
-            → length ((elim x as (λ y. Run) [ none ↦ r | found i v ↦ settleIn (rules P) words f (take (rules P) words i v r) ]) .news) ≤ paired r
+        go : ((r₁ : Run) → Good P 1 [] r₁ → length (settleIn (rules P) words f r₁ .news) ≤ pairsComing r₁) → (x : Found) → Highest (r .state) (suc (P .top)) x
+            → length ((elim x as (λ y. Run) [ none ↦ r | found i v ↦ settleIn (rules P) words f (take (rules P) words i v r) ]) .news) ≤ pairsComing r
         go ih none h = omega arith
         go ih (found zero v) h =
             let t : Turn P E pos words 1 0 v r = turn-of P E pos words 1 0 v r G h in
@@ -122,12 +122,12 @@ module _ (P : Setting) (E : Simple (P .n) (P .edge)) (pos : (j : ℕ) → 1 ≤ 
             )
         go ih (found (suc i) v) h = absurd (omega (arith, turn-of P E pos words 1 (suc i) v r G h .level))
 
-    -- A settling on level 0: at most a new pair for each that waits.
-    pub settle-zero : (r : Run) → Good P 1 [] r → length (settle (rules P) words r .news) ≤ paired r
+    -- A settling at level 0: at most a new pair for each that waits.
+    pub settle-zero : (r : Run) → Good P 1 [] r → length (settle (rules P) words r .news) ≤ pairsComing r
     unfolding settle
     settle-zero r G = settleIn-zero (r .state .n * suc (P .top)) r G
 
--- both ends of a pair parted on level 0 wait
-pub parted-zero : (a b : ℕ) (s : State) → s .rank a ≡ 1 → s .rank b ≡ 1 → paired (startParted a b s) ≤ 2
+-- both ends of a pair parted at level 0 wait
+pub parted-zero : (a b : ℕ) (s : State) → s .rank a ≡ 1 → s .rank b ≡ 1 → pairsComing (startParted a b s) ≤ 2
 unfolding startParted join upd
 parted-zero a b s ea eb = rw (ea, eb) (omega arith)
