@@ -140,15 +140,9 @@ fn chosen(below: &[u32], words: &[u32]) -> Option<u32> {
     Some(below[*word as usize % below.len()])
 }
 
-/// The first rise of an add, worked out from the book after it and the levels
-/// before it: the new pair of the riser and the board chosen by the words, or
-/// none if no level is reached.
-pub fn first_of_add(
-    before: &[u8],
-    book: &Book,
-    (a, b): (u32, u32),
-    words: &[u32],
-) -> Option<(u32, u32)> {
+/// The level that an add reaches, if any, and the riser, worked out from the book
+/// after it and the levels before it.
+fn reached(before: &[u8], book: &Book, (a, b): (u32, u32)) -> Option<(i32, u32)> {
     let mut best: Option<(i32, u32)> = None;
     for (j, limit) in [(0, 1), (1, 4), (2, 16), (3, 64)] {
         for v in [a.max(b), a.min(b)] {
@@ -159,9 +153,31 @@ pub fn first_of_add(
             }
         }
     }
-    let (j, riser) = best?;
+    best
+}
+
+/// The first rise of an add: the new pair of the riser and the board chosen by the
+/// words, or none if no level is reached.
+pub fn first_of_add(
+    before: &[u8],
+    book: &Book,
+    ends: (u32, u32),
+    words: &[u32],
+) -> Option<(u32, u32)> {
+    let (j, riser) = reached(before, book, ends)?;
     let below = neighbours(before, book, riser, j);
     Some((riser, chosen(&below, words)?))
+}
+
+/// The most new pairs of a change that begins at level 0: one if a board rises
+/// to it, and two if a pair is parted there. None if it begins elsewhere.
+pub fn most_at_level_0(before: &[u8], book: &Book, code: u32, (a, b): (u32, u32)) -> Option<usize> {
+    if code == 1 {
+        let (level, _) = reached(before, book, (a, b))?;
+        return (level == 0).then_some(1);
+    }
+    let parted = mate(before, a) == b && level(before, a) == 0;
+    parted.then_some(2)
 }
 
 /// The first new pair of a drop that parts a and b, if the lower of them has

@@ -46,6 +46,8 @@ pub struct Tally {
     /// that ran out of words after a draw.
     pub made_with_few: u64,
     pub ran_out_later: u64,
+    /// Changes of walks that parted a pair at level 0 and have two new pairs.
+    pub two_at_level_0: u64,
     /// New pairs standing at each level after their change.
     pub standing: [u64; 4],
     /// Changes of walks that come out otherwise with the lowest number first.
@@ -98,6 +100,10 @@ impl Tally {
         holds("the order decides some changes", self.decided > 0)?;
         holds("some changes pass many words over", self.most_passed > 9)?;
         holds("some are made with few words", self.made_with_few > 0)?;
+        holds(
+            "some have two new pairs at level 0",
+            self.two_at_level_0 > 0,
+        )?;
         holds("some run out of words later", self.ran_out_later > 0)
     }
 }

@@ -75,6 +75,10 @@ impl Walk {
             self.look()?;
             facts::of_answer(&self.rack, &self.book, words, &answer, &new_pairs)?;
             self.look_at_start(&before, code, (a, b), words, &new_pairs)?;
+            if let Some(most) = facts::most_at_level_0(&before, &self.book, code, (a, b)) {
+                holds("few new pairs at level 0", new_pairs.len() <= most)?;
+                tally.two_at_level_0 += u64::from(new_pairs.len() == 2);
+            }
             let decided = self.decided(&opened, (code, a, b), words, &answer)?;
             tally.decided += u64::from(decided);
             tally.made_with_few += u64::from(words.len() < opened.n / 2);
