@@ -159,11 +159,6 @@ module _ {S : Shape} {bs₀ : List ℕ} {a b : ℕ} {bs : List ℕ} (x : Dropped
       let k : read S bs .n ≡ read S bs₀ .n = ap (λ (s : State). s .n) dropped-read in
       (omega (arith, x .ends .0), omega (arith, x .ends .1))
 
-  pub dropped-small : (a < S .most) × (b < S .most)
-  dropped-small =
-      let h : Held S bs = dropped-begun .held in
-      (held-small h a (dropped-inside .0), held-small h b (dropped-inside .1))
-
   -- the edge of a pair: parted, and the settling follows
   pub dropped-mates : read S bs₀ .mate a ≡ b → read S bs .mate a ≡ b
   unfolding reown
