@@ -93,6 +93,7 @@ static void with(void *any)
     int32_t level = UNWRITTEN;
 
     refused(pairing_make(any, 0, 4), PAIRING_BAD_LENGTH, 0);
+    refused(pairing_make_with(any, 0, 4, 2, 3), PAIRING_BAD_LENGTH, 0);
     number = pairing_audit(any, 0, &yes);
     refused(number, PAIRING_BAD_LENGTH, yes);
     number = pairing_level(any, 0, 0, &level);

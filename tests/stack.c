@@ -11,21 +11,13 @@
 #include <string.h>
 
 #include "stack_calls.h"
+#include "stack_text.h"
 
 #define ALL_EDGES (MOST * (MOST - 1) / 2)
 #define PAINT 0xa5
 
 /* The rack of 256 vertices with all edges. */
 static uint8_t densest[PAIRING_RACK_BYTES];
-
-/* A repeatable source of numbers. */
-static uint32_t below(uint32_t k)
-{
-    static uint64_t state = 1;
-
-    state = state * 6364136223846793005u + 1442695040888963407u;
-    return (uint32_t)(state >> 33) % k;
-}
 
 static void nothing(void)
 {
@@ -42,6 +34,23 @@ static void make(void)
     expect(call_make, PAIRING_BAD_LENGTH);
 }
 
+/* A rack of every setting, and the settings next to their ranges. */
+static void make_with(void)
+{
+    int fits;
+
+    n = MOST;
+    for (growth = PAIRING_LEAST_GROWTH - 1; growth <= PAIRING_MOST_GROWTH + 1; growth++)
+        for (top = 0; top <= PAIRING_MOST_TOP + 1; top++) {
+            fits = PAIRING_LEAST_GROWTH <= growth && growth <= PAIRING_MOST_GROWTH && top <= PAIRING_MOST_TOP;
+            expect(call_make_with, fits ? PAIRING_OK : PAIRING_BAD_SETTING);
+        }
+    n = 0;
+    expect(call_make_with, PAIRING_BAD_VERTEX_COUNT);
+    len--;
+    expect(call_make_with, PAIRING_BAD_LENGTH);
+}
+
 /* A change with random words. */
 static void expect_change(uint32_t its_code, uint32_t v, uint32_t w, uint32_t wanted)
 {
@@ -55,25 +64,33 @@ static void expect_change(uint32_t its_code, uint32_t v, uint32_t w, uint32_t wa
     expect(call_change, wanted);
 }
 
-/* All edges among 256 vertices come in a scattered order; then the pair of each vertex goes, round after round, so that others fall and rise, every
- * second time with fewer words than a change may need, so that the old bytes are kept aside; then one change for each number. */
-static void change(void)
+/* All edges among 256 vertices come in a scattered order to a rack of these settings, which is then the densest. */
+static void make_densest(uint32_t its_growth, uint32_t its_top)
 {
     static uint32_t lower[ALL_EDGES], upper[ALL_EDGES];
-    uint32_t v, w, k, edge = 0, drawing = 0, falling = 0;
+    uint32_t v, w, k, edge = 0;
 
     for (v = 0; v < MOST; v++)
         for (w = v + 1; w < MOST; w++, edge++) {
             lower[edge] = v;
             upper[edge] = w;
         }
-    pairing_make(rack, len, MOST);
+    count = MOST / 2;
+    pairing_make_with(rack, len, MOST, its_growth, its_top);
     for (k = 0; k < ALL_EDGES; k++) {
         /* 7,919 has no divisor in common with the number of edges, so that each edge comes once. */
         edge = k * 7919 % ALL_EDGES;
         expect_change(PAIRING_ADD, lower[edge], upper[edge], PAIRING_OK);
     }
     memcpy(densest, rack, sizeof rack);
+}
+
+/* The pair of each vertex of the densest rack goes, round after round, so that others fall and rise, every second time with fewer words than a
+ * change may need, so that the old bytes are kept aside. */
+static void part_pairs(void)
+{
+    uint32_t v, w, k, drawing = 0, falling = 0;
+
     for (k = 0; k < 8 * MOST; k++) {
         v = k % MOST;
         count = k % 2 ? MOST / 2 : MOST / 4;
@@ -84,6 +101,19 @@ static void change(void)
         }
     }
     same("whether drops draw and fall", drawing != 0 && falling != 0, 1);
+}
+
+/* Both on racks of base 2, of one level alone, and of the short form's settings; then one change for each number. */
+static void change(void)
+{
+    uint32_t w;
+
+    make_densest(2, PAIRING_MOST_TOP);
+    part_pairs();
+    make_densest(PAIRING_MOST_GROWTH, 0);
+    part_pairs();
+    make_densest(PAIRING_SHORT_GROWTH, PAIRING_SHORT_TOP);
+    part_pairs();
     memcpy(rack, densest, sizeof rack);
     expect_change(0, 0, 1, PAIRING_BAD_CODE);
     expect_change(PAIRING_ADD, 0, MOST, PAIRING_NO_VERTEX);
@@ -94,7 +124,7 @@ static void change(void)
     count = 0;
     pairing_mate(rack, len, 2, &w);
     expect_change(PAIRING_DROP, 2, w, PAIRING_TOO_FEW_WORDS);
-    rack[4] = 1;
+    rack[PAIRING_GROWTH_AT] = PAIRING_LEAST_GROWTH - 1;
     expect_change(PAIRING_ADD, 0, 1, PAIRING_UNSOUND);
     len--;
     expect_change(PAIRING_ADD, 0, 1, PAIRING_BAD_LENGTH);
@@ -126,7 +156,7 @@ static void query(void)
     }
     a = MOST;
     expect(asked, PAIRING_NO_VERTEX);
-    rack[4] = 1;
+    rack[PAIRING_GROWTH_AT] = PAIRING_LEAST_GROWTH - 1;
     expect(asked, PAIRING_UNSOUND);
     len--;
     expect(asked, PAIRING_BAD_LENGTH);
@@ -155,33 +185,7 @@ static void roster(void)
     expect(call_roster, PAIRING_BAD_LENGTH);
 }
 
-/* A trace text on so many vertices, as long as can be, in which edges among a few of them come and go. Every second change has words for pairs among
- * those few alone, which suffice but may be too few to be sure of. */
-static void write_trace(uint32_t vertices, uint32_t few)
-{
-    static uint8_t present[MOST][MOST];
-    char next[2 * MOST];
-    uint32_t v, w, k, line;
-    int size;
-
-    memset(present, 0, sizeof present);
-    text_len = (size_t)sprintf(text, "(rack (boards %" PRIu32 "))\n", vertices);
-    for (line = 0;; line++) {
-        v = below(few - 1);
-        w = v + 1 + below(few - 1 - v);
-        size = sprintf(next, "(%s (%" PRIu32 " %" PRIu32 ") (draws", present[v][w] ? "drop" : "add", v, w);
-        for (k = 0; k < (line % 2 ? vertices : few) / 2; k++)
-            size += sprintf(next + size, " %" PRIu32, below(10));
-        size += sprintf(next + size, "))\n");
-        if (text_len + (size_t)size > PAIRING_TEXT_LIMIT)
-            return;
-        memcpy(text + text_len, next, (size_t)size);
-        text_len += (size_t)size;
-        present[v][w] ^= 1;
-    }
-}
-
-/* The run of such a trace, all of whose changes are accepted. */
+/* The run of a trace text, all of whose changes are accepted. */
 static void expect_run(uint32_t vertices, uint32_t few)
 {
     write_trace(vertices, few);
@@ -196,11 +200,18 @@ static void run(void)
     uint32_t few;
 
     for (few = 4; few <= 40; few++) {
+        growth = 0;
+        expect_run(few, few);
+        expect_run(MOST, few);
+        growth = PAIRING_LEAST_GROWTH + few % 7;
+        top = few % 4;
         expect_run(few, few);
         expect_run(MOST, few);
     }
     text_len--;
     expect(call_run, PAIRING_BAD_LINE);
+    text_len = (size_t)sprintf(text, "(rack (boards 1) (growth 9) (top 3))\n");
+    expect(call_run, PAIRING_BAD_SETTING);
     text_len = (size_t)sprintf(text, "(rack (boards 0))\n");
     expect(call_run, PAIRING_BAD_VERTEX_COUNT);
     space_len--;
@@ -238,6 +249,7 @@ int main(void)
     } parts[] = {
         {"change", change, NULL, PAIRING_STACK_CHANGE},
         {"make", make, NULL, PAIRING_STACK_CALL},
+        {"make_with", make_with, NULL, PAIRING_STACK_CALL},
         {"audit", audit, NULL, PAIRING_STACK_CALL},
         {"level", query, call_level, PAIRING_STACK_CALL},
         {"mate", query, call_mate, PAIRING_STACK_CALL},
@@ -253,7 +265,7 @@ int main(void)
         used = depth(parts[k].calls) - empty;
         /* A call that takes none wasn't made there. */
         within = within && used > 0 && used <= parts[k].limit;
-        printf("stack of pairing_%-7s %6zu bytes, at most %zu\n", parts[k].name, used, parts[k].limit);
+        printf("stack of pairing_%-9s %6zu bytes, at most %zu\n", parts[k].name, used, parts[k].limit);
     }
     printf("the stack: %s what the header says\n", within ? "within" : "NOT within");
     return within ? 0 : 1;

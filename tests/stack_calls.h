@@ -21,7 +21,7 @@ static uint8_t rack[PAIRING_RACK_BYTES], space[PAIRING_RECORD_SPACE];
 static char text[PAIRING_TEXT_LIMIT + 1];
 static uint32_t words[MOST / 2];
 static size_t len, text_len, space_len, count;
-static uint32_t n, code, a, b;
+static uint32_t n, growth, top, code, a, b;
 static int32_t at_level;
 static uint32_t number, yes, mate, linked, standing, falls, pairs;
 static uint64_t draws;
@@ -35,6 +35,11 @@ static void call_nothing(void)
 static void call_make(void)
 {
     number = pairing_make(rack, len, n);
+}
+
+static void call_make_with(void)
+{
+    number = pairing_make_with(rack, len, n, growth, top);
 }
 
 static void call_audit(void)

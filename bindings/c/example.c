@@ -1,7 +1,7 @@
 /*
  * The worked example of document 01 by the calls of the core: five changes on a rack of 4 boards, then all levels, mates, links and rosters,
- * and the audit, at last of a damaged rack; then the same changes as a trace text, run to its record, and the text with a line that doesn't fit. It
- * prints what example.out holds.
+ * and the audit, at last of a damaged rack; then the same changes as a trace text, run to its record, and the text with a line that doesn't fit.
+ * Then a rack of base 2, by the calls and as a trace text, and settings that no rack can have. It prints what example.out holds.
  *
  * cc -std=c99 -o example example.c DIRECTORY/libpairing.a
  */
@@ -24,6 +24,15 @@ static const char trace[] =
     "(add (2 3) (draws 0 0))\n"
     "(drop (0 1) (draws 0 0))\n"
     "(add (2 3) (draws 0 0))\n";
+
+/* A trace whose line 1 names the settings of base 2, and one that asks for a growth that no rack can have. */
+static const char base_2[] =
+    "(rack (boards 4) (growth 2) (top 3))\n"
+    "(add (0 1) (draws 0))\n"
+    "(add (0 2) (draws 0))\n"
+    "(add (0 3) (draws))\n"
+    "(drop (0 1) (draws 0))\n";
+static const char base_9[] = "(rack (boards 4) (growth 9) (top 3))\n";
 
 static void change(uint32_t code, uint32_t a, uint32_t b)
 {
@@ -106,6 +115,33 @@ static void run(const char *text, size_t text_len)
         printf("(bad %" PRIu32 " %zu)\n", number, line);
 }
 
+static void make_with(uint32_t growth, uint32_t top)
+{
+    uint32_t number = pairing_make_with(rack, sizeof rack, BOARDS, growth, top);
+
+    printf("make with growth %" PRIu32 ", top level %" PRIu32 ": number %" PRIu32 "\n", growth, top, number);
+}
+
+/* The changes of the trace of base 2: board 0 needs two neighbours below level 1 to rise there. It draws board 1; when that link goes, two are
+ * left below, of which it draws board 2, and board 1 falls twice. */
+static void base_two(void)
+{
+    int32_t level;
+
+    make_with(2, 3);
+    change(PAIRING_ADD, 0, 1);
+    change(PAIRING_ADD, 0, 2);
+    change(PAIRING_ADD, 0, 3);
+    change(PAIRING_DROP, 0, 1);
+    for (level = -1; level <= rack[PAIRING_TOP_AT]; level++)
+        roster(level);
+    audit();
+    make_with(2, PAIRING_MOST_TOP + 1);
+    printf("the rack keeps growth %d and top level %d\n", rack[PAIRING_GROWTH_AT], rack[PAIRING_TOP_AT]);
+    run(base_2, strlen(base_2));
+    run(base_9, strlen(base_9));
+}
+
 int main(void)
 {
     uint32_t v;
@@ -124,12 +160,13 @@ int main(void)
     for (level = -1; level <= 3; level++)
         roster(level);
     audit();
-    rack[4] = 1;
+    rack[PAIRING_GROWTH_AT] = PAIRING_LEAST_GROWTH - 1;
     audit();
     board(0);
     roster(0);
     run(trace, strlen(trace));
     audit();
     run(trace, strlen(trace) - 1);
+    base_two();
     return 0;
 }

@@ -22,15 +22,30 @@ extern "C" {
 #define PAIRING_RACK_BYTES 10152
 
 /*
- * Who stands at a level, -1 to 3, without asking for each vertex: vertex v does if bit v mod 8 (bit 0 lowest) of byte v div 8 is set in that
- * level's roster, the PAIRING_ROSTER_BYTES bytes of the rack from PAIRING_ROSTERS + PAIRING_ROSTER_BYTES * (level + 1) on. The calls keep the
- * rosters; a display only reads them.
+ * Who stands at a level, without asking for each vertex: vertex v does if bit v mod 8 (bit 0 lowest) of byte v div 8 is set in that level's
+ * roster, the PAIRING_ROSTER_BYTES bytes of the rack from PAIRING_ROSTERS + PAIRING_ROSTER_BYTES * (level + 1) on. Every rack has five rosters,
+ * for levels -1 to 3; those above its top level are empty. The calls keep the rosters; a display only reads them.
  */
 #define PAIRING_ROSTERS 9992
 #define PAIRING_ROSTER_BYTES 32
 
 /* The most vertices. */
 #define PAIRING_MOST_VERTICES 256
+
+/*
+ * The settings that a rack is made with. A vertex below level j has to rise there once so many of its neighbours stand below that level as its
+ * threshold says, which is the growth to the power j; no vertex rises above the top level. The short form, pairing_make or a trace text whose
+ * line 1 names no settings, gives growth 4 and top level 3.
+ */
+#define PAIRING_LEAST_GROWTH 2
+#define PAIRING_MOST_GROWTH 8
+#define PAIRING_MOST_TOP 3 /* The least top level is 0. */
+#define PAIRING_SHORT_GROWTH 4
+#define PAIRING_SHORT_TOP 3
+
+/* The bytes of a rack that hold its growth and its top level. No call changes them but those that make a rack. */
+#define PAIRING_GROWTH_AT 4
+#define PAIRING_TOP_AT 5
 
 /* The most bytes of a trace text, and the least of a record space: a record of any such text fits. */
 #define PAIRING_TEXT_LIMIT 16384
@@ -65,12 +80,20 @@ extern "C" {
 #define PAIRING_EDGE_PRESENT 10    /* An edge to add is there already. */
 #define PAIRING_EDGE_ABSENT 11     /* An edge to drop isn't there. */
 #define PAIRING_TOO_FEW_WORDS 12   /* The change runs out of words: it needs more than are lent. */
+#define PAIRING_BAD_SETTING 13     /* The growth asked for isn't 2 to 8, or the top level isn't 0 to 3. Looked at just after 5. */
 
 /*
- * Makes the buffer a rack of n vertices without edges. Its bytes may hold anything before.
+ * Makes the buffer a rack of n vertices without edges, with the short form's settings: growth 4 and top level 3. Its bytes may hold anything
+ * before.
  * Numbers: 0, 1, 5.
  */
 uint32_t pairing_make(uint8_t *rack, size_t len, uint32_t n);
+
+/*
+ * The same with a growth from 2 to 8 and a top level from 0 to 3.
+ * Numbers: 0, 1, 5, 13.
+ */
+uint32_t pairing_make_with(uint8_t *rack, size_t len, uint32_t n, uint32_t growth, uint32_t top);
 
 /*
  * Whether the bytes are a sound rack: *yes is 1 or 0.
@@ -79,7 +102,7 @@ uint32_t pairing_make(uint8_t *rack, size_t len, uint32_t n);
 uint32_t pairing_audit(const uint8_t *rack, size_t len, uint32_t *yes);
 
 /*
- * The level of vertex v, -1 to 3.
+ * The level of vertex v, -1 to the rack's top level.
  * Numbers: 0, 1, 6, 8.
  */
 uint32_t pairing_level(const uint8_t *rack, size_t len, uint32_t v, int32_t *level);
@@ -97,7 +120,8 @@ uint32_t pairing_mate(const uint8_t *rack, size_t len, uint32_t v, uint32_t *mat
 uint32_t pairing_linked(const uint8_t *rack, size_t len, uint32_t v, uint32_t w, uint32_t *linked);
 
 /*
- * The number of vertices at a level, 0 for a level outside -1 to 3. Who they are stands in the level's roster (PAIRING_ROSTERS).
+ * The number of vertices at a level, 0 for a level outside -1 to 3, and for one above the rack's top level, where no vertex stands. Who they are
+ * is in the level's roster (PAIRING_ROSTERS).
  * Numbers: 0, 1, 6.
  */
 uint32_t pairing_roster(const uint8_t *rack, size_t len, int32_t level, uint32_t *count);
@@ -114,12 +138,13 @@ uint32_t pairing_change(uint8_t *rack, size_t len, uint32_t code, uint32_t a, ui
 
 /*
  * Runs a trace text: makes the rack that its line 1 asks for in the buffer, whatever its bytes hold before, makes the changes of the further
- * lines on it, and writes the record into the space. The whole text is read before anything is written. A change that is refused (8 to 12)
- * is a line of the record and ends nothing. The record's last line is `(end (pairs P) (mean Q R))`: the pairs then held, and twice the edges as
- * Q times n plus R, R below n. *length is the record's length; the bytes of the space past it keep their values. *line is the first line that
- * doesn't fit, counted from 1, if the number is 4, and otherwise 0. A text of no bytes sets no rack: unless the number is 1 or 3, it is 0, the
- * record is the line `(end (pairs 0))`, 16 bytes with its line feed, and the buffer keeps its bytes.
- * Numbers: 0 to 5.
+ * lines on it, and writes the record into the space. Line 1 is `(rack (boards N))`, or names the settings too:
+ * `(rack (boards N) (growth G) (top T))`; the record repeats it as it stands. The whole text is read before anything is written. A change that is
+ * refused (8 to 12) is a line of the record and ends nothing. The record's last line is `(end (pairs P) (mean Q R))`: the pairs then held, and
+ * twice the edges as Q times n plus R, R below n. *length is the record's length; the bytes of the space past it keep their values. *line is the
+ * first line that doesn't fit, counted from 1, if the number is 4, and otherwise 0. A text of no bytes sets no rack: unless the number is 1 or 3,
+ * it is 0, the record is the line `(end (pairs 0))`, 16 bytes with its line feed, and the buffer keeps its bytes.
+ * Numbers: 0 to 5 and 13.
  */
 uint32_t pairing_run(uint8_t *rack, size_t len, const uint8_t *text, size_t text_len, uint8_t *space, size_t space_len, size_t *line,
                      size_t *length);

@@ -32,6 +32,8 @@ impl Random {
     }
 }
 
+/// A rack of n vertices without edges. Everything is measured at the settings of the
+/// short form, 4 and 3.
 fn fresh(n: usize) -> RackBytes {
     let mut rack = [0; RACK_BYTES];
     tuned::make(&mut rack, n as u16);

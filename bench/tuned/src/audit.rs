@@ -2,6 +2,7 @@
 
 use crate::bits::{self, Row};
 use crate::layout::{edges, linked, mates, rank, roster, vertices, RackBytes, FREE};
+use crate::settings::{self, Setting};
 use crate::{few, many, rosters};
 
 /// Whether n vertices have so many edges that work on whole rows takes fewer
@@ -24,11 +25,12 @@ pub fn audit(rack: &RackBytes) -> bool {
 /// The number of pairs; none if the rack isn't sound.
 pub fn pairs_if_sound(rack: &RackBytes) -> Option<u32> {
     let n = vertices(rack);
-    if !(1..=256).contains(&n) || rack[4..8] != [0; 4] {
+    if !(1..=256).contains(&n) || !settings::are_right(rack) {
         return None;
     }
+    let setting = Setting::of(rack);
     let vertices = bits::below(n);
-    if !rosters::are_right(rack, &vertices) {
+    if !rosters::are_right(rack, &vertices) || !rosters::none_above(rack, setting.highest) {
         return None;
     }
     let unranked = roster(rack, 0);
@@ -36,9 +38,9 @@ pub fn pairs_if_sound(rack: &RackBytes) -> Option<u32> {
     let pairs = pairs_if_right(rack, &ranked)?;
     let ownable = rosters::ownable(rack, &vertices);
     let right = if many_edges(rack, n) {
-        many::edges_are_right(rack, n, &ownable)
+        many::edges_are_right(rack, setting, n, &ownable)
     } else {
-        few::edges_are_right(rack, &ownable)
+        few::edges_are_right(rack, setting, &ownable)
     };
     right.then_some(pairs)
 }

@@ -6,6 +6,7 @@ use crate::draws::{all_choose, Fair, Places, Plain};
 use crate::layout::{linked, roster, vertices, RackBytes};
 use crate::moves::{self, Tally};
 use crate::saved::Saved;
+use crate::settings::Setting;
 
 /// The number and figures of a change; a refused one has no other figures. The draws
 /// are the words used, those passed over too.
@@ -67,7 +68,9 @@ fn change_of(
         let first = words.get(..most.min(vertices(rack) / 2));
         first.is_some_and(all_choose)
     };
-    made(rack, code, ends, words.iter().copied(), enough, pairs)
+    let setting = Setting::of(rack);
+    let words = words.iter().copied();
+    made(rack, setting, code, ends, words, enough, pairs)
 }
 
 /// A change that 7 to 11 don't fit, on a sound rack that holds so many pairs. If the
@@ -75,6 +78,7 @@ fn change_of(
 #[inline(always)]
 pub fn made<W: Iterator<Item = u32> + Clone>(
     rack: &mut RackBytes,
+    setting: &'static Setting,
     code: u32,
     ends: (u8, u8),
     words: W,
@@ -82,15 +86,16 @@ pub fn made<W: Iterator<Item = u32> + Clone>(
     pairs: u32,
 ) -> Answer {
     let places = Plain(words.clone());
-    match play(rack, code, ends, places, enough, pairs) {
+    match play(rack, setting, code, ends, places, enough, pairs) {
         Some(tally) => Answer::accepted(tally),
-        None => made_or_not(rack, code, ends, words, pairs),
+        None => made_or_not(rack, setting, code, ends, words, pairs),
     }
 }
 
 #[inline(always)]
 fn play<P: Places>(
     rack: &mut RackBytes,
+    setting: &'static Setting,
     code: u32,
     ends: (u8, u8),
     places: P,
@@ -98,9 +103,9 @@ fn play<P: Places>(
     pairs: u32,
 ) -> Option<Tally> {
     if code == 1 {
-        moves::add(rack, ends, places, enough, pairs)
+        moves::add(rack, setting, ends, places, enough, pairs)
     } else {
-        moves::drop(rack, ends, places, enough, pairs)
+        moves::drop(rack, setting, ends, places, enough, pairs)
     }
 }
 
@@ -108,6 +113,7 @@ fn play<P: Places>(
 #[inline(never)]
 fn made_or_not<W: Iterator<Item = u32>>(
     rack: &mut RackBytes,
+    setting: &'static Setting,
     code: u32,
     ends: (u8, u8),
     words: W,
@@ -115,7 +121,7 @@ fn made_or_not<W: Iterator<Item = u32>>(
 ) -> Answer {
     let saved = Saved::of(rack);
     let mut fair = Fair::of(words);
-    let tally = play(rack, code, ends, &mut fair, |_, _| true, pairs);
+    let tally = play(rack, setting, code, ends, &mut fair, |_, _| true, pairs);
     match tally.filter(|_| !fair.ran_out) {
         Some(tally) => Answer {
             draws: u64::from(tally.draws) + fair.passed,

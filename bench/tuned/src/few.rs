@@ -1,35 +1,21 @@
 //! The edges of a rack with few of them, one by one.
 
 use crate::bits::{self, Row};
-use crate::layout::{
-    edges, owner_bits, word, RackBytes, MATES_AT, PHI_AT, RANKS_AT, ROSTERS_AT, ROWS_AT,
-};
-
-/// The bits that no phi below its threshold has.
-pub const AT_THRESHOLD: u32 = 0xc0f0_fcff;
-
-/// What one neighbour counts for an owner of each rank.
-pub const COUNTED: [u32; 8] = [
-    0x0101_0101,
-    0x0101_0100,
-    0x0101_0000,
-    0x0100_0000,
-    0,
-    0,
-    0,
-    0,
-];
+use crate::counts::are_right;
+use crate::layout::{edges, owner_bits, word, RackBytes, MATES_AT, RANKS_AT, ROSTERS_AT, ROWS_AT};
+use crate::settings::Setting;
 
 /// Whether no owner stands below the other end, no edge has two owners or joins
 /// a vertex to itself, and the edge number and all counts are right and below
 /// their thresholds.
-pub fn edges_are_right(rack: &RackBytes, ownable: &[Row; 8]) -> bool {
+pub fn edges_are_right(rack: &RackBytes, setting: &Setting, ownable: &[Row; 8]) -> bool {
     let mut tally = Tally {
         counts: [0; 256],
         found: 0,
         outside: 0,
         twice: 0,
     };
+    let counted = setting.counted;
     let groups = rack[RANKS_AT..MATES_AT].chunks_exact(8);
     let rows = rack[ROWS_AT..ROSTERS_AT].chunks_exact(256);
     for (group, (ranks, rows)) in groups.zip(rows).enumerate() {
@@ -42,11 +28,11 @@ pub fn edges_are_right(rack: &RackBytes, ownable: &[Row; 8]) -> bool {
             if row[0] | row[1] | row[2] | row[3] != 0 {
                 let class = usize::from(rank & 7);
                 let v = (8 * group + k) as u8;
-                tally.add(rack, v, &row, &ownable[class], COUNTED[class]);
+                tally.add(rack, v, &row, &ownable[class], counted[class]);
             }
         }
     }
-    tally.is_right(rack)
+    tally.is_right(rack, setting)
 }
 
 /// What the edges come to.
@@ -88,17 +74,10 @@ impl Tally {
     }
 
     /// Whether all this stands in the rack, each count below its threshold.
-    fn is_right(&self, rack: &RackBytes) -> bool {
-        let mut wrong = 0;
-        for (count, stored) in self
-            .counts
-            .iter()
-            .zip(rack[PHI_AT..ROWS_AT].chunks_exact(4))
-        {
-            let stored = u32::from_le_bytes([stored[0], stored[1], stored[2], stored[3]]);
-            wrong |= stored ^ count | stored & AT_THRESHOLD;
-        }
-        let edges = u32::from(edges(rack));
-        wrong == 0 && self.found == edges && self.outside == 0 && self.twice == 0
+    fn is_right(&self, rack: &RackBytes, setting: &Setting) -> bool {
+        are_right(rack, setting, |v| self.counts[v])
+            && self.found == u32::from(edges(rack))
+            && self.outside == 0
+            && self.twice == 0
     }
 }

@@ -3,6 +3,7 @@
 
 use crate::bits::{self, Row};
 use crate::lanes::Lanes;
+use crate::settings::SHORT;
 
 /// The length of a rack.
 pub const RACK_BYTES: usize = 10_152;
@@ -16,21 +17,27 @@ pub const FREE: u16 = 65_535;
 /// A one at each of the levels 0 to 3.
 pub const ONES: u32 = 0x0101_0101;
 
-/// The bit of phi at j that is set once phi has reached 4^j. Phi never passes
-/// its threshold, so no other value has this bit.
-pub const REACHED: u32 = 0x4010_0401;
-
 pub const EDGES_AT: usize = 2;
+pub const GROWTH_AT: usize = 4;
+pub const TOP_AT: usize = 5;
 pub const RANKS_AT: usize = 8;
 pub const MATES_AT: usize = 264;
 pub const PHI_AT: usize = 776;
 pub const ROWS_AT: usize = 1_800;
 pub const ROSTERS_AT: usize = 9_992;
 
-/// Makes the bytes a rack of n vertices without edges, n from 1 to 256.
+/// Makes the bytes a rack of n vertices without edges, n from 1 to 256. "The short
+/// form of making gives 4 and 3 also."
 pub fn make(rack: &mut RackBytes, n: u16) {
+    make_with(rack, n, SHORT.0, SHORT.1);
+}
+
+/// The same with a growth from 2 to 8 and a top level from 0 to 3.
+pub fn make_with(rack: &mut RackBytes, n: u16, growth: u8, top: u8) {
     rack.fill(0);
     rack[..2].copy_from_slice(&n.to_le_bytes());
+    rack[GROWTH_AT] = growth;
+    rack[TOP_AT] = top;
     rack[MATES_AT..PHI_AT].fill(255);
     put_set(rack, ROSTERS_AT, &bits::below(usize::from(n)));
 }
@@ -100,10 +107,14 @@ pub fn set_phi(rack: &mut RackBytes, v: u8, phi: u32) {
     rack[at..at + 4].copy_from_slice(&phi.to_le_bytes());
 }
 
-/// What one neighbour adds to the phi of a vertex if it is counted from this
-/// level upward: a one at each level from there, none from level 4.
-pub fn counted_from(level: u8) -> u32 {
+/// A one at each level from this one on, none from level 4.
+pub fn levels_from(level: u8) -> u32 {
     (u64::from(ONES) << (8 * level)) as u32
+}
+
+/// Phi of a vertex at a level alone.
+pub fn phi_at(rack: &RackBytes, v: u8, level: u8) -> u8 {
+    rack[PHI_AT + 4 * usize::from(v) + usize::from(level & 3)]
 }
 
 /// Eight bytes as one word.

@@ -8,12 +8,14 @@
 //! waiting one pends. A vertex has a rank, its level plus 1, as the bytes
 //! hold it, and stands in the roster of that rank. Row v is the out-row of v:
 //! the edges that v owns. The four counts of a vertex are phi at 0 to 3, read
-//! as one word with phi at j in byte j.
+//! as one word with phi at j in byte j. The setting of a rack is what follows from
+//! the growth and the top level that it was made with.
 
 mod audit;
 mod bits;
 mod blocks;
 mod change;
+mod counts;
 mod digits;
 mod draws;
 mod few;
@@ -29,11 +31,12 @@ mod record;
 mod rosters;
 mod run;
 mod saved;
+mod settings;
 mod text;
 mod words;
 
 pub use audit::audit;
 pub use change::{change, change_sound, Answer};
-pub use layout::{make, RackBytes, RACK_BYTES};
+pub use layout::{make, make_with, RackBytes, RACK_BYTES};
 pub use query::{roster, roster_sound};
 pub use run::{run, Outcome, RECORD_SPACE, TEXT_LIMIT};

@@ -2,36 +2,58 @@
 
 use crate::bits::{self, Row, EMPTY};
 use crate::blocks::no_edge_has_two_owners;
-use crate::few::{AT_THRESHOLD, COUNTED};
-use crate::layout::{edges, phi, roster, row, RackBytes, ROSTERS_AT, ROWS_AT};
+use crate::counts::are_right;
+use crate::layout::{edges, roster, row, RackBytes, ROSTERS_AT, ROWS_AT};
 use crate::planes::Columns;
+use crate::settings::Setting;
+
+/// The six lowest bits at each of the levels 0 to 3.
+const SIX_BITS: u32 = 0x3f3f_3f3f;
 
 /// The same as in `few`. Phi of a vertex at j is the size of its row and the
 /// number of its owners of rank up to j; the owners are counted for all
-/// vertices at once, rank by rank.
-pub fn edges_are_right(rack: &RackBytes, n: usize, ownable: &[Row; 8]) -> bool {
+/// vertices at once, rank by rank, in planes enough for the highest counts.
+pub fn edges_are_right(rack: &RackBytes, setting: &Setting, n: usize, ownable: &[Row; 8]) -> bool {
     let mut rows = Rows {
         counts: [0; 256],
         found: 0,
         outside: EMPTY,
         list: [0; 256],
     };
-    let mut columns = Columns::start();
     let mut owners = [[0; 256]; 4];
-    for rank in 1..4 {
-        let list = rows.add_counted(rack, rank as u8);
+    let too_many = if setting.most & !SIX_BITS == 0 {
+        add_counted::<6>(rack, setting, ownable, &mut rows, &mut owners)
+    } else {
+        add_counted::<8>(rack, setting, ownable, &mut rows, &mut owners)
+    };
+    for rank in [0, usize::from(setting.highest & 7)] {
+        rows.add(rack, rank as u8, &ownable[rank]);
+    }
+    !too_many
+        && empty_from(rack, n)
+        && rows.outside == EMPTY
+        && rows.found == u32::from(edges(rack))
+        && counts_are_right(rack, setting, &rows.counts, &owners)
+        && no_edge_has_two_owners(rack, n)
+}
+
+/// Adds the rows of the ranks that count, and the owners up to each of them. The
+/// answer is whether some vertex has more than the planes can tell.
+#[inline(always)]
+fn add_counted<const P: usize>(
+    rack: &RackBytes,
+    setting: &Setting,
+    ownable: &[Row; 8],
+    rows: &mut Rows,
+    owners: &mut [[u8; 256]; 4],
+) -> bool {
+    let mut columns = Columns::<P>::start();
+    for rank in 1..usize::from(setting.highest).min(4) {
+        let list = rows.add_counted(rack, setting, rank as u8);
         owners[rank] = columns.add_rows(rack, list);
         rows.note(&columns.some(), &ownable[rank]);
     }
-    for rank in [0, 4] {
-        rows.add(rack, rank as u8, &ownable[rank]);
-    }
-    empty_from(rack, n)
-        && rows.outside == EMPTY
-        && rows.found == u32::from(edges(rack))
-        && !columns.too_many()
-        && counts_are_right(rack, &rows.counts, &owners)
-        && no_edge_has_two_owners(rack, n)
+    columns.too_many()
 }
 
 /// Whether the rows from vertex n on are empty.
@@ -54,8 +76,8 @@ struct Rows {
 impl Rows {
     /// Adds the sizes of the rows of a rank's roster, and lists the roster.
     #[inline(always)]
-    fn add_counted(&mut self, rack: &RackBytes, rank: u8) -> &[u8] {
-        let one = COUNTED[usize::from(rank & 7)];
+    fn add_counted(&mut self, rack: &RackBytes, setting: &Setting, rank: u8) -> &[u8] {
+        let one = setting.counted(rank);
         let (mut found, mut length) = (0, 0);
         bits::each(&roster(rack, rank), |v| {
             let size = bits::size(&row(rack, v));
@@ -69,7 +91,7 @@ impl Rows {
     }
 
     /// Adds the rows of a rank at which none counts: those of rank 0 are empty, and
-    /// no level is above that of rank 4.
+    /// no level is above that of the highest rank.
     #[inline(always)]
     fn add(&mut self, rack: &RackBytes, rank: u8, ownable: &Row) {
         let (mut found, mut named) = (0, EMPTY);
@@ -95,14 +117,14 @@ impl Rows {
 /// Whether the counts in the rack are right and below their thresholds. No
 /// count runs over its byte: a vertex has at most 255 neighbours, and if one is
 /// counted twice its edge has two owners, so that the rack is unsound anyway.
-fn counts_are_right(rack: &RackBytes, counts: &[u32; 256], owners: &[[u8; 256]; 4]) -> bool {
-    let mut wrong = 0;
-    for v in 0..256 {
+fn counts_are_right(
+    rack: &RackBytes,
+    setting: &Setting,
+    counts: &[u32; 256],
+    owners: &[[u8; 256]; 4],
+) -> bool {
+    are_right(rack, setting, |v| {
         let [one, two, three] = [owners[1][v], owners[2][v], owners[3][v]].map(u32::from);
-        let owners = one << 8 | two << 16 | three << 24;
-        let count = counts[v].wrapping_add(owners);
-        let stored = phi(rack, v as u8);
-        wrong |= stored ^ count | stored & AT_THRESHOLD;
-    }
-    wrong == 0
+        counts[v].wrapping_add(one << 8 | two << 16 | three << 24)
+    })
 }

@@ -1,10 +1,9 @@
 //! Adding and dropping an edge of a sound rack, in place.
 
 use crate::draws::Places;
-use crate::layout::{
-    self, counted_from, disown, mate, own, phi, rank, set_phi, RackBytes, REACHED,
-};
+use crate::layout::{self, disown, mate, own, phi, rank, set_phi, RackBytes};
 use crate::play::Play;
+use crate::settings::{Setting, REACHED};
 
 /// What an accepted change answers.
 #[derive(Clone, Copy)]
@@ -29,18 +28,20 @@ impl Tally {
 #[inline(always)]
 pub fn add<P: Places>(
     rack: &mut RackBytes,
+    setting: &'static Setting,
     (a, b): (u8, u8),
     places: P,
     enough: impl FnOnce(&RackBytes, usize) -> bool,
     pairs: u32,
 ) -> Option<Tally> {
     let (low, high) = (a.min(b), a.max(b));
-    put_edge(rack, low, high);
-    let Some((riser, rank)) = riser(rack, low, high) else {
+    let counts = put_edge(rack, setting, low, high);
+    let Some((first, rank)) = riser(setting, counts) else {
         return Some(Tally::start(pairs));
     };
+    let riser = if first { low } else { high };
     if !enough(rack, most_draws(rank, 1)) {
-        take_edge(rack, low, high);
+        take_edge(rack, setting, low, high);
         return None;
     }
     // On equal ranks the riser takes its edge at once, so that later no vertex of
@@ -49,7 +50,7 @@ pub fn add<P: Places>(
         disown(rack, low, high);
         own(rack, high, low);
     }
-    let mut play = Play::start(rack, places, pairs);
+    let mut play = Play::start(rack, setting, places, pairs);
     play.rise_and_draw(riser, rank);
     play.settle(rank - 1);
     Some(play.tally)
@@ -60,21 +61,22 @@ pub fn add<P: Places>(
 #[inline(always)]
 pub fn drop<P: Places>(
     rack: &mut RackBytes,
+    setting: &'static Setting,
     (a, b): (u8, u8),
     places: P,
     enough: impl FnOnce(&RackBytes, usize) -> bool,
     pairs: u32,
 ) -> Option<Tally> {
     if mate(rack, a) != u16::from(b) {
-        take_edge(rack, a, b);
+        take_edge(rack, setting, a, b);
         return Some(Tally::start(pairs));
     }
     let rank = rank(rack, a);
     if !enough(rack, most_draws(rank, 2)) {
         return None;
     }
-    take_edge(rack, a, b);
-    let mut play = Play::start(rack, places, pairs);
+    take_edge(rack, setting, a, b);
+    let mut play = Play::start(rack, setting, places, pairs);
     play.part(a, b, rank);
     play.settle(rank);
     Some(play.tally)
@@ -93,19 +95,20 @@ fn most_draws(rank: u8, begin: usize) -> usize {
 
 /// Takes the edge out, which both ends counted above both ranks.
 #[inline(always)]
-fn take_edge(rack: &mut RackBytes, a: u8, b: u8) {
+fn take_edge(rack: &mut RackBytes, setting: &Setting, a: u8, b: u8) {
     disown(rack, a, b);
     disown(rack, b, a);
     layout::set_edges(rack, layout::edges(rack) - 1);
-    let above = rank(rack, a).max(rank(rack, b));
+    let counted = setting.counted(rank(rack, a).max(rank(rack, b)));
     for end in [a, b] {
-        set_phi(rack, end, phi(rack, end) - counted_from(above));
+        set_phi(rack, end, phi(rack, end) - counted);
     }
 }
 
 /// Puts the edge in: the owner is the end of higher rank, on equal ranks the
-/// lower number, and both ends count each other above both ranks.
-fn put_edge(rack: &mut RackBytes, low: u8, high: u8) {
+/// lower number, and both ends count each other above both ranks. The answer is
+/// their counts.
+fn put_edge(rack: &mut RackBytes, setting: &Setting, low: u8, high: u8) -> [u32; 2] {
     let (of_low, of_high) = (rank(rack, low), rank(rack, high));
     if of_high > of_low {
         own(rack, high, low);
@@ -113,25 +116,23 @@ fn put_edge(rack: &mut RackBytes, low: u8, high: u8) {
         own(rack, low, high);
     }
     layout::set_edges(rack, layout::edges(rack) + 1);
-    for end in [low, high] {
-        let counted = counted_from(of_low.max(of_high));
-        set_phi(rack, end, phi(rack, end) + counted);
-    }
+    let counted = setting.counted(of_low.max(of_high));
+    let counts = [low, high].map(|end| phi(rack, end) + counted);
+    set_phi(rack, low, counts[0]);
+    set_phi(rack, high, counts[1]);
+    counts
 }
 
-/// The vertex that rises after an add, and to which rank: the highest level
-/// that a count has reached, and the lower number if both reach it.
-fn riser(rack: &RackBytes, low: u8, high: u8) -> Option<(u8, u8)> {
-    let of_low = phi(rack, low) & REACHED;
-    let reached = of_low | (phi(rack, high) & REACHED);
-    if reached == 0 {
+/// Whether the first of two vertices, or else the second, rises after an add, and to
+/// which rank: the highest level that a count has reached, and the first one if both
+/// reach it.
+fn riser(setting: &Setting, [first, second]: [u32; 2]) -> Option<(bool, u8)> {
+    let [first, second] = [first, second].map(|phi| setting.lifted(phi) & REACHED);
+    let either = first | second;
+    if either == 0 {
         return None;
     }
-    let level = reached.ilog2() / 8;
-    let riser = if of_low >> (8 * level) != 0 {
-        low
-    } else {
-        high
-    };
-    Some((riser, level as u8 + 1))
+    // The bits of ranks 1 to 4 are 7, 15, 23 and 32.
+    let rank = (either.ilog2() + 1) / 8;
+    Some((first >> (8 * rank - 1) != 0, rank as u8))
 }

@@ -6,25 +6,25 @@ use crate::bits::Row;
 use crate::lanes::{full_add, half_add, or, swap, Lanes, NONE};
 use crate::layout::{half, RackBytes};
 
-/// The planes of 128 columns for counts up to 63, and the columns whose count
-/// went over that. Half of the columns are worked on at a time, so that their
-/// planes find room in the registers.
+/// The P planes of 128 columns, 6 for counts up to 63 or 8 for counts up to 255, and
+/// the columns whose count went over that. Half of the columns are worked on at a
+/// time, so that their planes find room in the registers.
 #[derive(Clone, Copy)]
-struct Planes {
-    planes: [Lanes; 6],
+struct Planes<const P: usize> {
+    planes: [Lanes; P],
     over: Lanes,
 }
 
 /// The column counts of the rows added so far.
-pub struct Columns {
-    halves: [Planes; 2],
+pub struct Columns<const P: usize> {
+    halves: [Planes<P>; 2],
     counts: [u8; 256],
 }
 
-impl Columns {
-    pub fn start() -> Columns {
+impl<const P: usize> Columns<P> {
+    pub fn start() -> Columns<P> {
         let none = Planes {
-            planes: [NONE; 6],
+            planes: [NONE; P],
             over: NONE,
         };
         Columns {
@@ -62,13 +62,13 @@ impl Columns {
         [a, b, c, d]
     }
 
-    /// Whether some count is 64 or more.
+    /// Whether some count is more than the planes can tell.
     pub fn too_many(&self) -> bool {
         self.halves.iter().any(|half| half.over != NONE)
     }
 }
 
-impl Planes {
+impl<const P: usize> Planes<P> {
     fn add(&mut self, row: Lanes) {
         self.carry(0, row);
     }
@@ -77,14 +77,14 @@ impl Planes {
     /// carry for the others.
     #[inline(always)]
     fn add_eight(&mut self, row: impl Fn(usize) -> Lanes) {
-        let [ones, twos, fours, ..] = &mut self.planes;
-        let first = full_add(ones, row(0), row(1));
-        let second = full_add(ones, row(2), row(3));
-        let upper = full_add(twos, first, second);
-        let first = full_add(ones, row(4), row(5));
-        let second = full_add(ones, row(6), row(7));
-        let lower = full_add(twos, first, second);
-        let carry = full_add(fours, upper, lower);
+        let planes = &mut self.planes;
+        let first = full_add(&mut planes[0], row(0), row(1));
+        let second = full_add(&mut planes[0], row(2), row(3));
+        let upper = full_add(&mut planes[1], first, second);
+        let first = full_add(&mut planes[0], row(4), row(5));
+        let second = full_add(&mut planes[0], row(6), row(7));
+        let lower = full_add(&mut planes[1], first, second);
+        let carry = full_add(&mut planes[2], upper, lower);
         self.carry(3, carry);
     }
 
@@ -100,8 +100,8 @@ impl Planes {
     /// Writes the counts of these 128 columns, a byte each. First the bits of
     /// each column come together in one byte, then the bytes in order.
     fn write(&self, counts: &mut [u8]) {
-        let [a, b, c, d, e, f] = self.planes;
-        let mut words = [a, b, c, d, e, f, NONE, NONE];
+        let mut words = [NONE; 8];
+        words[..P].copy_from_slice(&self.planes);
         spread::<1>(&mut words, 1, 0x5555_5555_5555_5555);
         spread::<2>(&mut words, 2, 0x3333_3333_3333_3333);
         spread::<4>(&mut words, 4, 0x0f0f_0f0f_0f0f_0f0f);

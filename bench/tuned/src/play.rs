@@ -14,25 +14,33 @@
 use crate::bits::{self, Row};
 use crate::draws::Places;
 use crate::layout::{
-    counted_from, disown, mate, near_owners, own, owns, phi, rank, roster, row, set_mate, set_phi,
-    set_rank, set_row, RackBytes, FREE, ONES, REACHED,
+    disown, levels_from, mate, near_owners, own, owns, phi, phi_at, rank, roster, row, set_mate,
+    set_phi, set_rank, set_row, RackBytes, FREE, ONES,
 };
 use crate::moves::Tally;
 use crate::queues::{self, Queues};
+use crate::settings::{Setting, REACHED};
 
 /// A change in play. Pending vertices stand in one queue a rank, so that none
 /// has to be looked for.
 pub struct Play<'a, P> {
     rack: &'a mut RackBytes,
+    setting: &'static Setting,
     places: P,
     queues: Queues,
     pub tally: Tally,
 }
 
 impl<P: Places> Play<'_, P> {
-    pub fn start(rack: &mut RackBytes, places: P, pairs: u32) -> Play<'_, P> {
+    pub fn start<'a>(
+        rack: &'a mut RackBytes,
+        setting: &'static Setting,
+        places: P,
+        pairs: u32,
+    ) -> Play<'a, P> {
         Play {
             rack,
+            setting,
             places,
             queues: Queues::start(),
             tally: Tally::start(pairs),
@@ -85,7 +93,7 @@ impl<P: Places> Play<'_, P> {
         let (from, counts) = (rank(self.rack, u), phi(self.rack, u));
         let below = (counts >> (8 * (to - 1))) & 255;
         let passed = ONES >> (32 - 8 * u32::from(to));
-        let uncounted = counted_from(from) & passed;
+        let uncounted = levels_from(from) & passed;
         let mut owned = 0;
         let rack = &mut *self.rack;
         bits::each(&row(rack, u), |w| {
@@ -108,7 +116,7 @@ impl<P: Places> Play<'_, P> {
         let least = rank(self.rack, u).max(1);
         let mut missing = missing;
         for rank in least..to {
-            let uncounted = counted_from(rank) & passed;
+            let uncounted = levels_from(rank) & passed;
             for (k, &word) in roster(self.rack, rank).iter().enumerate() {
                 let mut left = word;
                 if few_sought(word, missing) {
@@ -172,7 +180,7 @@ impl<P: Places> Play<'_, P> {
         let mut row = row(self.rack, v);
         self.hand_over(v, at, &mut row);
         let below = bits::size(&row);
-        if below >= 1 << (2 * (at - 1)) {
+        if below >= self.setting.threshold(at) {
             self.draw(v, at, below);
         } else {
             self.fall(v, at, &row, below);
@@ -214,21 +222,35 @@ impl<P: Places> Play<'_, P> {
             return;
         }
         set_phi(self.rack, v, phi(self.rack, v) | below << level);
-        let reached = REACHED & (255 << level);
-        let mut any = 0;
-        bits::each(row, |w| {
-            let counts = phi(self.rack, w) + (1 << level);
-            set_phi(self.rack, w, counts);
-            any |= counts;
-        });
-        if any & reached != 0 {
-            self.scan(row, reached, from);
+        let (setting, one) = (self.setting, 1 << level);
+        let reached = if setting.bits != 0 {
+            self.count_more(row, one, u64::from) & u64::from(setting.bits)
+        } else {
+            self.count_more(row, one, |phi| setting.lifted(phi)) & REACHED
+        };
+        // The bit that tells of this level is among these nine, and no other level's.
+        if reached & (511 << level) != 0 {
+            self.scan(row, from);
         }
     }
 
-    fn scan(&mut self, row: &Row, reached: u32, to: u8) {
+    /// All in a row count so many more. The answer is each bit that stands in what
+    /// some of their counts are then made into.
+    #[inline(always)]
+    fn count_more(&mut self, row: &Row, more: u32, made: impl Fn(u32) -> u64) -> u64 {
+        let mut any = 0;
         bits::each(row, |w| {
-            if phi(self.rack, w) & reached != 0 {
+            let counts = phi(self.rack, w) + more;
+            set_phi(self.rack, w, counts);
+            any |= made(counts);
+        });
+        any
+    }
+
+    fn scan(&mut self, row: &Row, to: u8) {
+        let threshold = self.setting.threshold(to) as u8;
+        bits::each(row, |w| {
+            if phi_at(self.rack, w, to - 1) == threshold {
                 self.rise_and_draw(w, to);
             }
         });

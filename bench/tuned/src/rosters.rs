@@ -12,6 +12,11 @@ pub fn are_right(rack: &RackBytes, vertices: &Row) -> bool {
     or(wrong(rack, 0, [a, b]), wrong(rack, 1, [c, d])) == NONE
 }
 
+/// Whether the rosters above a rank are empty.
+pub fn none_above(rack: &RackBytes, rank: u8) -> bool {
+    (rank + 1..5).all(|rank| roster(rack, rank) == EMPTY)
+}
+
 /// What is wrong with half h of the rosters and ranks: no bit if nothing is.
 #[inline(always)]
 fn wrong(rack: &RackBytes, h: usize, vertices: Lanes) -> Lanes {

@@ -1,8 +1,9 @@
 //! Running a trace text to a record.
 
 use crate::change::{allowed, made, Answer};
-use crate::layout::{make, vertices, RackBytes};
+use crate::layout::{make_with, vertices, RackBytes};
 use crate::record::Record;
+use crate::settings::{self, Setting};
 use crate::text::{self, Step, Trace};
 
 /// The most bytes of a trace text, and the least of a record space.
@@ -37,12 +38,14 @@ pub fn run(rack: &mut RackBytes, text: &[u8], space: &mut [u8]) -> Outcome {
         }
     };
     let room = space.len();
-    make(rack, trace.vertices as u16);
+    let (growth, top) = trace.settings;
+    make_with(rack, trace.vertices as u16, growth as u8, top as u8);
+    let setting = Setting::of(rack);
     let mut record = Record::start(space);
     record.put(trace.first_line);
     let mut pairs = 0;
     for step in &trace.steps {
-        let answer = one(rack, step, &mut pairs);
+        let answer = one(rack, setting, step, &mut pairs);
         record.answer(&answer);
     }
     record.ending(rack, pairs);
@@ -69,7 +72,8 @@ fn blank(space: &mut [u8]) -> Outcome {
     }
 }
 
-/// Numbers 2 to 5, first fit first, with the line of 4; otherwise the trace.
+/// Numbers 2 to 5 and 13, first fit first, with the line of 4; otherwise the trace.
+/// "A setting outside its range is number 13, looked at just after 5, in a trace too".
 fn wanted(text: &[u8], space: usize) -> Result<Trace<'_>, (u32, usize)> {
     if text.len() > TEXT_LIMIT {
         return Err((2, 0));
@@ -81,18 +85,22 @@ fn wanted(text: &[u8], space: usize) -> Result<Trace<'_>, (u32, usize)> {
     if !(1..=256).contains(&trace.vertices) {
         return Err((5, 0));
     }
+    let (growth, top) = trace.settings;
+    if !settings::in_range(growth, top) {
+        return Err((13, 0));
+    }
     Ok(trace)
 }
 
 /// One change of a run; the pairs held are kept from change to change.
-fn one(rack: &mut RackBytes, step: &Step, pairs: &mut u32) -> Answer {
+fn one(rack: &mut RackBytes, setting: &'static Setting, step: &Step, pairs: &mut u32) -> Answer {
     let ends = match allowed(rack, step.code, step.a, step.b) {
         Ok(ends) => ends,
         Err(number) => return Answer::refused(number),
     };
     // The words were looked at as they were read, so that their number is all to ask.
     let enough = |rack: &RackBytes, _| step.words.number >= vertices(rack) / 2 && !step.words.high;
-    let answer = made(rack, step.code, ends, step.drawn, enough, *pairs);
+    let answer = made(rack, setting, step.code, ends, step.drawn, enough, *pairs);
     if answer.number == 0 {
         *pairs = answer.pairs;
     }

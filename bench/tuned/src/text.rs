@@ -2,6 +2,7 @@
 //! the place of its words.
 
 use crate::digits::{number, sixteen};
+use crate::settings::SHORT;
 use crate::words::{pass, Drawn, Passed};
 
 /// One change line of a trace.
@@ -14,10 +15,11 @@ pub struct Step<'a> {
     pub drawn: Drawn<'a>,
 }
 
-/// A whole trace: the number of vertices asked for, line 1 as it stands, and
-/// the changes.
+/// A whole trace: the number of vertices and the settings asked for, growth and
+/// top level, line 1 as it stands, and the changes.
 pub struct Trace<'a> {
     pub vertices: u32,
+    pub settings: (u32, u32),
     pub first_line: &'a [u8],
     pub steps: Vec<Step<'a>>,
 }
@@ -32,7 +34,8 @@ const SHORTEST: usize = 20;
 /// the grammar but the last of a line has a line feed in it, so the line at
 /// which reading ends is that line.
 pub fn read(text: &[u8]) -> Result<Trace<'_>, usize> {
-    let (vertices, mut rest) = rack_line(text).ok_or(1_usize)?;
+    let (vertices, rest) = vertices(text).ok_or(1_usize)?;
+    let (settings, mut rest) = settings(rest).ok_or(1_usize)?;
     let first_line = &text[..text.len() - rest.len()];
     let mut steps = Vec::with_capacity(text.len() / SHORTEST);
     while !rest.is_empty() {
@@ -42,14 +45,24 @@ pub fn read(text: &[u8]) -> Result<Trace<'_>, usize> {
     }
     Ok(Trace {
         vertices,
+        settings,
         first_line,
         steps,
     })
 }
 
-fn rack_line(text: &[u8]) -> Option<(u32, &[u8])> {
-    let (vertices, rest) = number(text.strip_prefix(b"(rack (boards ")?)?;
-    Some((vertices, line_end(rest)?))
+fn vertices(text: &[u8]) -> Option<(u32, &[u8])> {
+    number(text.strip_prefix(b"(rack (boards ")?)
+}
+
+/// The settings in the rest of line 1: "the short line means 4 and 3".
+fn settings(text: &[u8]) -> Option<((u32, u32), &[u8])> {
+    if let Some(rest) = line_end(text) {
+        return Some(((SHORT.0.into(), SHORT.1.into()), rest));
+    }
+    let (growth, rest) = number(text.strip_prefix(b") (growth ")?)?;
+    let (top, rest) = number(rest.strip_prefix(b") (top ")?)?;
+    Some(((growth, top), line_end(rest)?))
 }
 
 #[inline(always)]

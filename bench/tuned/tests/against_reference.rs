@@ -1,5 +1,5 @@
-//! The tuned program against the plain one: audits, changes and runs, seeded
-//! and bounded by counts.
+//! The tuned program against the plain one: audits and changes, seeded and bounded
+//! by counts. Half of the racks have settings other than 4 and 3.
 
 #[path = "../../../tests/compare/src/asked.rs"]
 mod asked;
@@ -7,8 +7,6 @@ mod asked;
 mod damage;
 #[path = "../../../tests/compare/src/racks.rs"]
 mod racks;
-#[path = "../../../tests/compare/src/texts/mod.rs"]
-mod texts;
 
 use asked::Asked;
 use damage::{damaged, DAMAGES};
@@ -33,14 +31,21 @@ fn bytes(rack: &Rack) -> RackBytes {
     rack.to_bytes().try_into().expect("a rack's length")
 }
 
+/// A rack of one kind, and what is told of it if something is amiss.
+fn any_rack(random: &mut Random, n: usize, kinds: &[Kind]) -> (Rack, String) {
+    let (settings, kind) = (random.settings(), random.pick(kinds));
+    let told = format!("{kind:?} rack of {n} vertices, {settings:?}");
+    (racks::rack_with(random, settings, n, kind), told)
+}
+
 #[test]
 fn audits_of_sound_racks() {
     for seed in 0..3_000 {
         let mut random = Random::new(0x50_0000 + seed);
         let n = racks::size(&mut random);
-        let kind = random.pick(&[Kind::Reached, Kind::Random, Kind::Dense, Kind::Forks]);
-        let rack = racks::rack(&mut random, n, kind);
-        assert!(tuned::audit(&bytes(&rack)), "seed {seed}, {kind:?} {n}");
+        let kinds = [Kind::Reached, Kind::Random, Kind::Dense, Kind::Forks];
+        let (rack, told) = any_rack(&mut random, n, &kinds);
+        assert!(tuned::audit(&bytes(&rack)), "seed {seed}, {told}");
     }
 }
 
@@ -49,9 +54,8 @@ fn audits_of_large_sound_racks() {
     for seed in 0..200 {
         let mut random = Random::new(0x51_0000 + seed);
         let n = random.between(60, 256);
-        let kind = random.pick(&[Kind::Random, Kind::Dense]);
-        let rack = racks::rack(&mut random, n, kind);
-        assert!(tuned::audit(&bytes(&rack)), "seed {seed}, {kind:?} {n}");
+        let (rack, told) = any_rack(&mut random, n, &[Kind::Random, Kind::Dense]);
+        assert!(tuned::audit(&bytes(&rack)), "seed {seed}, {told}");
     }
 }
 
@@ -61,14 +65,14 @@ fn audits_of_damaged(seeds: u64, size: fn(&mut Random) -> usize) -> [u64; 2] {
     for seed in 0..seeds {
         let mut random = Random::new(0x52_0000 + seed);
         let n = size(&mut random);
-        let kind = random.pick(&[Kind::Reached, Kind::Random, Kind::Random, Kind::Dense]);
-        let rack = racks::rack(&mut random, n, kind);
+        let kinds = [Kind::Reached, Kind::Random, Kind::Random, Kind::Dense];
+        let (rack, told) = any_rack(&mut random, n, &kinds);
         for (name, damage) in DAMAGES {
             let bytes = damaged(&mut random, &rack, damage);
             let sound = reference::sound(&bytes);
             let bytes: RackBytes = bytes.try_into().expect("a rack's length");
-            let told = format!("seed {seed}, {kind:?} {n}, {name}");
-            assert_eq!(tuned::audit(&bytes), sound, "{told}");
+            let audit = tuned::audit(&bytes);
+            assert_eq!(audit, sound, "seed {seed}, {told}, {name}");
             said[usize::from(sound)] += 1;
         }
     }
@@ -182,9 +186,9 @@ fn changes_from_empty_racks() {
     ] {
         for list in 0..lists {
             let seed = 0x60_0000 + 1_000 * n as u64 + list;
-            let told = format!("{n} vertices, seed {seed:#x}");
             let mut random = Random::new(seed);
-            let mut rack = Rack::empty(n);
+            let mut rack = Rack::empty_with(random.settings(), n);
+            let told = format!("{n} vertices, {:?}, seed {seed:#x}", rack.settings);
             changes(&mut random, &mut rack, 2 * number / 3, 80, &told);
             changes(&mut random, &mut rack, number / 3, 35, &told);
         }
@@ -196,9 +200,9 @@ fn changes_from_random_racks() {
     for seed in 0..25_000 {
         let mut random = Random::new(0x61_0000 + seed);
         let n = racks::size(&mut random);
-        let kind = random.pick(&[Kind::Random, Kind::Random, Kind::Dense]);
-        let mut rack = racks::rack(&mut random, n, kind);
-        let told = format!("{kind:?} rack of {n} vertices, seed {seed}");
+        let kinds = [Kind::Random, Kind::Random, Kind::Dense];
+        let (mut rack, told) = any_rack(&mut random, n, &kinds);
+        let told = format!("{told}, seed {seed}");
         changes(&mut random, &mut rack, 4, 45, &told);
     }
 }
@@ -208,9 +212,9 @@ fn changes_from_large_random_racks() {
     for seed in 0..250 {
         let mut random = Random::new(0x62_0000 + seed);
         let n = random.between(66, 256);
-        let kind = random.pick(&[Kind::Random, Kind::Random, Kind::Dense]);
-        let mut rack = racks::rack(&mut random, n, kind);
-        let told = format!("{kind:?} rack of {n} vertices, seed {seed}");
+        let kinds = [Kind::Random, Kind::Random, Kind::Dense];
+        let (mut rack, told) = any_rack(&mut random, n, &kinds);
+        let told = format!("{told}, seed {seed}");
         changes(&mut random, &mut rack, 6, 40, &told);
     }
 }
@@ -222,8 +226,8 @@ fn drops_on_dense_racks() {
     for seed in 0..60 {
         let mut random = Random::new(0x64_0000 + seed);
         let n = random.between(66, 256);
-        let mut rack = racks::rack(&mut random, n, Kind::Dense);
-        let told = format!("dense rack of {n} vertices, seed {seed}");
+        let (mut rack, told) = any_rack(&mut random, n, &[Kind::Dense]);
+        let told = format!("{told}, seed {seed}");
         changes(&mut random, &mut rack, 16, 0, &told);
     }
 }
@@ -233,7 +237,7 @@ fn damaged_racks_are_turned_back() {
     for seed in 0..1_000 {
         let mut random = Random::new(0x63_0000 + seed);
         let n = random.between(2, 12);
-        let rack = racks::rack(&mut random, n, Kind::Random);
+        let (rack, _) = any_rack(&mut random, n, &[Kind::Random]);
         let Asked { code, a, b, words } = Asked::any(&mut random, &rack, 45);
         let (_, damage) = random.pick(&DAMAGES);
         let mut plain_bytes = damaged(&mut random, &rack, damage);
@@ -242,57 +246,5 @@ fn damaged_racks_are_turned_back() {
         let came = tuned::change(&mut mine, code, a, b, &words);
         assert_eq!(plain(came), wanted, "seed {seed}");
         assert!(mine[..] == plain_bytes[..], "seed {seed}: other bytes");
-    }
-}
-
-/// One text: the same outcome, the same record space and the same rack.
-fn one_text(case: &texts::Case, told: &str) -> u32 {
-    let mut wanted_rack = vec![7; RACK_BYTES];
-    let mut wanted_space = vec![8; case.space];
-    let wanted = reference::run(&mut wanted_rack, &case.text, &mut wanted_space);
-    let mut rack = [7; RACK_BYTES];
-    let mut space = vec![8; case.space];
-    let came = tuned::run(&mut rack, &case.text, &mut space);
-    let figures = (wanted.number, wanted.line, wanted.length);
-    assert_eq!((came.number, came.line, came.length), figures, "{told}");
-    assert!(space == wanted_space, "{told}: another record");
-    assert!(rack[..] == wanted_rack[..], "{told}: another rack");
-    wanted.number
-}
-
-/// All texts that the core is tried on, but for rack buffers of another length,
-/// which this program isn't made for.
-#[test]
-fn texts() {
-    let mut top = -1;
-    for family in texts::families() {
-        let mut numbers = [0; 6];
-        // Number 1 is the one for a rack buffer of another length.
-        numbers[1] = 1;
-        for place in 0..family.cases {
-            let case = (family.make)(place);
-            if case.rack != RACK_BYTES {
-                continue;
-            }
-            let told = format!("{}, case {place}", family.name);
-            numbers[one_text(&case, &told) as usize] += 1;
-            top = top.max(case.top);
-        }
-        assert_eq!(family.missed(&numbers), None, "{}", family.name);
-    }
-    assert_eq!(top, 3, "the highest level reached");
-}
-
-#[test]
-fn texts_with_a_stated_outcome() {
-    for run in texts::stated() {
-        one_text(&run.case, run.name);
-        let mut space = vec![0; run.case.space];
-        let came = tuned::run(&mut [0; RACK_BYTES], &run.case.text, &mut space);
-        let stated = (run.number, run.line);
-        assert_eq!((came.number, came.line), stated, "{}", run.name);
-        if let Some(record) = run.record {
-            assert_eq!(&space[..came.length], record.as_bytes(), "{}", run.name);
-        }
     }
 }

@@ -12,7 +12,7 @@ use reference::calls::change_rack;
 use reference::checks::random::Random;
 use reference::checks::shortage::runs_out;
 use reference::checks::stars::{star, MOST};
-use reference::Rack;
+use reference::{Rack, Settings};
 use tuned::RackBytes;
 
 fn bytes(rack: &Rack) -> RackBytes {
@@ -140,6 +140,7 @@ fn other_lists(old: &Rack, before: &RackBytes, asked: &Asked, used: usize) {
 #[test]
 fn random_lists() {
     let mut seen = Seen::default();
+    let all: Vec<Settings> = Settings::all().collect();
     for seed in 0..12_000 {
         let mut random = Random::new(0x90_0000 + seed);
         let n = match random.below(2) {
@@ -153,7 +154,13 @@ fn random_lists() {
             Kind::Random,
             Kind::Dense,
         ]);
-        let mut rack = racks::rack(&mut random, n, kind);
+        let mut rack = match seed % 2 {
+            0 => racks::rack(&mut random, n, kind),
+            _ => {
+                let settings = random.pick(&all);
+                racks::rack_with(&mut random, settings, n, kind)
+            }
+        };
         walk(&mut random, &mut rack, 4, &mut seen);
     }
     let least = [

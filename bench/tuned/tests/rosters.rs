@@ -8,6 +8,7 @@ mod racks;
 
 use racks::Kind;
 use reference::checks::random::Random;
+use reference::{Rack, Settings};
 use tuned::{RackBytes, RACK_BYTES};
 
 const RANKS: usize = 8;
@@ -15,7 +16,7 @@ const MATES: usize = 264;
 const ROSTERS: usize = 9_992;
 
 /// Sound racks with few edges and with many, of sizes around those at which a
-/// word or half of a set is full.
+/// word or half of a set is full, and one of each of the settings.
 fn sound_racks() -> Vec<(String, RackBytes)> {
     let mut random = Random::new(0x80_0000);
     let mut racks = Vec::new();
@@ -24,13 +25,23 @@ fn sound_racks() -> Vec<(String, RackBytes)> {
     ] {
         for kind in [Kind::Random, Kind::Dense] {
             let rack = racks::rack(&mut random, n, kind);
-            let bytes: RackBytes = rack.to_bytes().try_into().expect("a rack's length");
-            let told = format!("{kind:?} rack of {n} vertices");
-            assert!(tuned::audit(&bytes), "{told}");
-            racks.push((told, bytes));
+            racks.push((format!("{kind:?} rack of {n} vertices"), rack));
         }
     }
-    racks
+    for settings in Settings::all() {
+        let n = random.between(20, 256);
+        let kind = random.pick(&[Kind::Random, Kind::Dense]);
+        let rack = racks::rack_with(&mut random, settings, n, kind);
+        racks.push((format!("{kind:?} rack of {n}, {settings:?}"), rack));
+    }
+    let bytes = |(told, rack): (String, Rack)| (told, bytes(&rack));
+    racks.into_iter().map(bytes).collect()
+}
+
+fn bytes(rack: &Rack) -> RackBytes {
+    let bytes = rack.to_bytes().try_into().expect("a rack's length");
+    assert!(tuned::audit(&bytes));
+    bytes
 }
 
 fn mate(rack: &RackBytes, v: usize) -> Option<usize> {
@@ -126,13 +137,14 @@ fn numbers_at_levels() {
         let mut random = Random::new(0x81_0000 + seed);
         let n = racks::size(&mut random);
         let kind = random.pick(&[Kind::Reached, Kind::Random, Kind::Dense, Kind::Forks]);
-        let mut bytes = racks::rack(&mut random, n, kind).to_bytes();
+        let settings = random.settings();
+        let mut bytes = racks::rack_with(&mut random, settings, n, kind).to_bytes();
         if random.percent(30) {
             bytes[random.below(RACK_BYTES)] ^= 1 << random.below(8);
         }
         let mine: RackBytes = bytes.clone().try_into().expect("a rack's length");
         for (level, wanted) in LEVELS.iter().zip(reference::rosters(&bytes, LEVELS)) {
-            let told = format!("seed {seed}, {kind:?} {n}, level {level}");
+            let told = format!("seed {seed}, {kind:?} {n}, {settings:?}, level {level}");
             let came = tuned::roster(&mine, *level);
             assert_eq!(came.map_or((6, 0), |count| (0, count)), wanted, "{told}");
             if let Some(count) = came {

@@ -1,6 +1,6 @@
 //! Runs the trace on standard input and prints what the rack then holds, a line
 //! for each board: its level, its mate, the boards to which it owns a link, and
-//! its counts at levels 0 to 3.
+//! its counts at levels 0 to 3, which are 0 above the rack's top level.
 //!
 //! Owners and counts have no query, so these two are read from the bytes, at the
 //! offsets of document 01.

@@ -25,7 +25,7 @@ impl Audit {
 #[must_use]
 pub struct Level {
     pub number: Number,
-    /// -1 to 3; a free vertex is at -1.
+    /// -1 to the rack's top level; a free vertex is at -1.
     pub level: i32,
 }
 

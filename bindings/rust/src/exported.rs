@@ -7,6 +7,8 @@ use crate::Number;
 extern "C" {
     pub fn pairing_make(rack: *mut u8, len: usize, n: u32) -> Number;
 
+    pub fn pairing_make_with(rack: *mut u8, len: usize, n: u32, growth: u32, top: u32) -> Number;
+
     pub fn pairing_audit(rack: *const u8, len: usize, yes: *mut u32) -> Number;
 
     pub fn pairing_level(rack: *const u8, len: usize, v: u32, level: *mut i32) -> Number;

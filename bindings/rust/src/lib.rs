@@ -79,6 +79,31 @@
 //! # Ok::<(), Number>(())
 //! ```
 //!
+//! A rack of base 2, where two neighbours below level 1 are enough to rise there:
+//!
+//! ```
+//! use pairing::{Number, ADD, GROWTH_AT, RACK_BYTES, SHORT_GROWTH, SHORT_TOP, TOP_AT};
+//!
+//! let mut rack = vec![0; RACK_BYTES];
+//! pairing::make_with(&mut rack, 4, 2, 3).result()?;
+//! assert_eq!((rack[GROWTH_AT], rack[TOP_AT]), (2, 3));
+//! pairing::change(&mut rack, ADD, 0, 1, &[0]).result()?;
+//! pairing::change(&mut rack, ADD, 0, 2, &[0]).result()?;
+//! assert_eq!(pairing::level(&rack, 0).result()?, 1);
+//!
+//! // A setting outside its range makes no rack: this one stays.
+//! let refused = pairing::make_with(&mut rack, 4, 9, 3);
+//! assert_eq!(refused, Number::BAD_SETTING);
+//! assert_eq!(pairing::level(&rack, 0).result()?, 1);
+//!
+//! // The short form is the one with these settings.
+//! let mut short = vec![0; RACK_BYTES];
+//! pairing::make(&mut short, 4).result()?;
+//! pairing::make_with(&mut rack, 4, SHORT_GROWTH, SHORT_TOP).result()?;
+//! assert!(rack == short);
+//! # Ok::<(), Number>(())
+//! ```
+//!
 //! A number in words:
 //!
 //! ```
@@ -88,63 +113,31 @@
 //! ```
 
 mod answers;
+mod constants;
 mod exported;
 mod number;
 
 pub use answers::{Answer, Audit, Level, Linked, Mate, Outcome, Roster};
+pub use constants::*;
 pub use number::Number;
-
-/// The length of a rack.
-pub const RACK_BYTES: usize = 10_152;
-
-/// Where the rosters start in a rack, one for each level from -1 to 3: vertex v
-/// is at a level if bit v mod 8 (bit 0 lowest) of byte v div 8 is set in the
-/// [`ROSTER_BYTES`] bytes from `ROSTERS + ROSTER_BYTES * (level + 1)` on. The
-/// calls keep the rosters; a display only reads them.
-pub const ROSTERS: usize = 9_992;
-
-/// The length of a roster.
-pub const ROSTER_BYTES: usize = 32;
-
-/// The most vertices.
-pub const MOST_VERTICES: u32 = 256;
-
-/// The most bytes of a trace text.
-pub const TEXT_LIMIT: usize = 16_384;
-
-/// The least bytes of a record space: a record of any trace text fits.
-pub const RECORD_SPACE: usize = 65_536;
-
-/// The stack in bytes that [`run`] needs beside its caller's own; measured with a
-/// margin, and not proved.
-pub const STACK_RUN: usize = 81_920;
-
-/// The stack in bytes that [`change`] needs, which may keep the rack's bytes
-/// aside; likewise.
-pub const STACK_CHANGE: usize = 20_480;
-
-/// The stack in bytes that every other call needs, likewise.
-pub const STACK_CALL: usize = 8_192;
-
-/// The mate of a free vertex.
-pub const FREE: u32 = 65_535;
-
-/// The code of a change that adds an edge.
-pub const ADD: u32 = 1;
-
-/// The code of a change that drops an edge.
-pub const DROP: u32 = 2;
 
 /// What stands in a figure before a call. Every figure is written by it; one
 /// left out would show.
 const UNWRITTEN: u32 = 0xdead_beef;
 const UNWRITTEN_DRAWS: u64 = 0xdead_beef_dead_beef;
 
-/// Makes the buffer a rack of n vertices without edges. The number is 0, 1 or
-/// 5.
+/// Makes the buffer a rack of n vertices without edges, with growth
+/// [`SHORT_GROWTH`] and top level [`SHORT_TOP`]. The number is 0, 1 or 5.
 pub fn make(rack: &mut [u8], n: u32) -> Number {
     // SAFETY: pointer and length are those of one slice, lent for the call.
     unsafe { exported::pairing_make(rack.as_mut_ptr(), rack.len(), n) }
+}
+
+/// The same with a growth from [`LEAST_GROWTH`] to [`MOST_GROWTH`] and a top level
+/// from 0 to [`MOST_TOP`]. The number is 0, 1, 5 or 13.
+pub fn make_with(rack: &mut [u8], n: u32, growth: u32, top: u32) -> Number {
+    // SAFETY: pointer and length are those of one slice, lent for the call.
+    unsafe { exported::pairing_make_with(rack.as_mut_ptr(), rack.len(), n, growth, top) }
 }
 
 /// Whether the rack is sound. The number is 0 or 1.
@@ -179,8 +172,9 @@ pub fn linked(rack: &[u8], v: u32, w: u32) -> Linked {
     Linked { number, linked }
 }
 
-/// The number of vertices at a level, 0 for a level outside -1 to 3. Who they are
-/// stands in the level's roster ([`ROSTERS`]). The number is 0, 1 or 6.
+/// The number of vertices at a level, 0 for a level outside -1 to 3, and for one
+/// above the rack's top level, where no vertex stands. Who they are is in the
+/// level's roster ([`ROSTERS`]). The number is 0, 1 or 6.
 pub fn roster(rack: &[u8], level: i32) -> Roster {
     let mut count = UNWRITTEN;
     // SAFETY: the slice is lent for the call and only read; `count` is a local.
@@ -222,10 +216,13 @@ pub fn change(rack: &mut [u8], code: u32, a: u32, b: u32, words: &[u32]) -> Answ
 
 /// Runs a trace text: the rack that it asks for is made in the buffer and
 /// changed line by line, and the record stands at the start of the space, whose
-/// further bytes keep their values. Its last line is `(end (pairs P) (mean Q R))`:
-/// the pairs then held, and twice the links as Q times the boards plus R, R below
-/// their number. A text of no bytes sets no rack: the buffer keeps its bytes, and
-/// the record is `(end (pairs 0))`. The number is 0 to 5.
+/// further bytes keep their values. Line 1 is `(rack (boards N))`, or
+/// `(rack (boards N) (growth G) (top T))` for other settings than the short form's;
+/// the record repeats it as it stands. Its last line is
+/// `(end (pairs P) (mean Q R))`: the pairs then held, and twice the links as Q
+/// times the boards plus R, R below their number. A text of no bytes sets no rack:
+/// the buffer keeps its bytes, and the record is `(end (pairs 0))`. The number is 0
+/// to 5 or 13.
 pub fn run(rack: &mut [u8], text: &[u8], space: &mut [u8]) -> Outcome {
     let [mut line, mut length] = [UNWRITTEN as usize; 2];
     // SAFETY: the slices are lent for the call, the text only to be read; the figures are locals.

@@ -39,6 +39,9 @@ impl Number {
     pub const EDGE_ABSENT: Number = Number(11);
     /// 12: the change runs out of words: it needs more than are lent.
     pub const TOO_FEW_WORDS: Number = Number(12);
+    /// 13: the growth asked for isn't 2 to 8, or the top level isn't 0 to 3. It is
+    /// looked at just after 5.
+    pub const BAD_SETTING: Number = Number(13);
 
     /// The number as an error, unless the call ran.
     pub fn result(self) -> Result<(), Number> {
@@ -57,7 +60,7 @@ impl Number {
 }
 
 /// The name of each number, with what it says and what to do.
-const TOLD: [(&str, &str); 13] = [
+const TOLD: [(&str, &str); 14] = [
     ("OK", "the call ran"),
     (
         "BAD_LENGTH",
@@ -106,6 +109,10 @@ const TOLD: [(&str, &str); 13] = [
     (
         "TOO_FEW_WORDS",
         "the change needs more words than are lent; lend more, the first ones the same",
+    ),
+    (
+        "BAD_SETTING",
+        "the growth asked for isn't 2 to 8, or the top level isn't 0 to 3; ask for settings within these",
     ),
 ];
 

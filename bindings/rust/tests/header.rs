@@ -24,15 +24,15 @@ fn defined() -> BTreeMap<&'static str, u32> {
     names.collect()
 }
 
-fn numbers() -> [(&'static str, Number); 13] {
+fn numbers() -> [(&'static str, Number); 14] {
     named![Number: OK BAD_LENGTH LONG_TEXT SHORT_SPACE BAD_LINE BAD_VERTEX_COUNT UNSOUND
-        BAD_CODE NO_VERTEX SAME_VERTEX EDGE_PRESENT EDGE_ABSENT TOO_FEW_WORDS]
+        BAD_CODE NO_VERTEX SAME_VERTEX EDGE_PRESENT EDGE_ABSENT TOO_FEW_WORDS BAD_SETTING]
 }
 
 #[test]
 fn same_constants() {
-    let others = named![RACK_BYTES ROSTERS ROSTER_BYTES MOST_VERTICES TEXT_LIMIT RECORD_SPACE STACK_RUN STACK_CHANGE STACK_CALL FREE
-        ADD DROP];
+    let others = named![RACK_BYTES ROSTERS ROSTER_BYTES MOST_VERTICES LEAST_GROWTH MOST_GROWTH MOST_TOP SHORT_GROWTH SHORT_TOP GROWTH_AT
+        TOP_AT TEXT_LIMIT RECORD_SPACE STACK_RUN STACK_CHANGE STACK_CALL FREE ADD DROP];
     let numbers = numbers().map(|(name, number)| (name, number.0));
     let all: BTreeMap<&str, u32> = others.into_iter().chain(numbers).collect();
     assert_eq!(all, defined());
@@ -60,5 +60,5 @@ fn functions(text: &str) -> Vec<&str> {
 fn same_functions() {
     let exported = functions(EXPORTED);
     assert_eq!(exported, functions(HEADER));
-    assert_eq!(exported.len(), 8);
+    assert_eq!(exported.len(), 9);
 }

@@ -10,12 +10,12 @@ use native.Mathlib.Omega.{arith}
 use lib.Dec.{T, eqb, ltb, eqb→eq, ltb→lt, lt→ltb}
 use lib.Bits.{bitOr}
 use Rattle.model.specs.Shape.{Shape}
-use Rattle.model.specs.Bytes.{rankAt, rosterAt}
+use Rattle.model.specs.Bytes.{topAt, rankAt, rosterAt}
 use Rattle.model.proofs.Tests.{eq?, le?, true-T, bool-ext, eqb-yes, or-cases, or-left, or-right}
 use Rattle.bitset.specs.Words.{Rest}
 use Rattle.bitset.proofs.Words.{rest-end}
 use Rattle.bitset.proofs.Sets.{rest-or, none-rest, same-places, places-same}
-use Rattle.audit.specs.Parts.{listedIn, AllRankedBelow, RostersBelow, Rosters}
+use Rattle.audit.specs.Parts.{Settings, listedIn, AllRankedBelow, RostersBelow, Rosters}
 
 -- ---- who is in a roster
 
@@ -92,6 +92,15 @@ module _ {S : Shape} {bs : List ℕ} {n : ℕ} (few : n ≤ S .most) (g : Roster
 
   pub enrolled-rank : (v : ℕ) → v < n → rankAt bs v ≤ S .levels
   enrolled-rank v h = enrolled-in v h .0
+
+  -- and it is none above the top
+  pub enrolled-low : Settings S bs → (v : ℕ) → v < n → rankAt bs v ≤ suc (topAt bs)
+  enrolled-low s v h = elim (le? (rankAt bs v) (suc (topAt bs))) [
+    | inl l ↦ l
+    | inr a ↦
+        let e = enrolled-in v h in
+        absurd (s .empty (rankAt bs v) (omega (arith, e .0)) a v (omega arith) (e .1))
+  ]
 
   pub enrolled-right : (v : ℕ) → v < n → (r : ℕ) → r < suc (S .levels) → rosterAt S bs r v ≡ eqb (rankAt bs v) r
   enrolled-right v h r l = bool-ext (rosterAt S bs r v) (eqb (rankAt bs v) r)

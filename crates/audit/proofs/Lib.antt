@@ -3,5 +3,6 @@ pub mod Tally
 pub mod Walk
 pub mod Linked
 pub mod Phi
+pub mod Limited
 pub mod Enrolled
 pub mod Whole

@@ -4,6 +4,7 @@ use mathlib.Core.Logic.{inl, inr}
 use mathlib.Core.Bool.{Bool, true, false, _&&_, _||_}
 use mathlib.Core.List.{List}
 use Prim.Native.Nat.{ℕ, suc, _+_, _*_, _≤_, _<_}
+use native.Mathlib.Nat.{mul-le-mul-right}
 use native.Mathlib.Numerals.{add-one}
 use native.Mathlib.Omega.{arith}
 use lib.Dec.{T, leb, ltb, le→leb}
@@ -14,13 +15,14 @@ use Rattle.model.specs.State.{edge, near, below, phi, edgeCount, edges}
 use Rattle.model.specs.Bytes.{sizeAt, rankAt, ownsAt, read}
 use Rattle.model.proofs.Tests.{le?, eq?, leb-yes, leb-no}
 use Rattle.model.proofs.Sums.{sum-swap, double-count}
-use Rattle.model.proofs.Counting.{sum-eq, sum-add, sum-zero, sum-point, bit-no}
+use Rattle.model.proofs.Counting.{sum-eq, sum-add, sum-zero, sum-point, sum-bound, bit-no}
 use Rattle.model.proofs.Prefix.{count-skip, count-ext}
 use Rattle.model.proofs.Limits.{phi-above, phi-zero}
 use Rattle.model.proofs.Reading.{read-size, read-rank, read-owns}
 use Rattle.layout.specs.Rows.{degreeAt}
 use Rattle.audit.specs.Tally.{share, tallied, upTo, Holds}
-use Rattle.audit.proofs.Tally.{cell-inside, tallied-none, there, here, there-in, here-same, here-other, share-same, share-other}
+use Rattle.audit.specs.Parts.{SumsFit}
+use Rattle.audit.proofs.Tally.{cell-inside, tallied-none, tallied-le, there, here, there-in, here-same, here-other, share-same, share-other}
 
 -- the entries for one rank more
 pub upTo-none : (S : Shape) (t : List ℕ) (x : ℕ) → upTo S t x 0 ≡ 0
@@ -34,10 +36,27 @@ upTo-suc S t x j = omega arith
 pub upTo-more : (S : Shape) (t : List ℕ) (x j : ℕ) → upTo S t x (j + 1) ≡ upTo S t x j + getD t (S .levels * x + j) 0
 upTo-more S t x j = ap (upTo S t x) (add-one j) ∙ upTo-suc S t x j
 
+-- those for rank 0
+pub upTo-one : (S : Shape) (t : List ℕ) (x : ℕ) → upTo S t x 1 ≡ getD t (S .levels * x) 0
+upTo-one S t x =
+    let first : S .levels * x + 0 ≡ S .levels * x = omega arith in
+    omega (arith, upTo-suc S t x 0, upTo-none S t x, ap (λ (k : ℕ). getD t k 0) first)
+
 -- a tally's entries, by what it holds
 pub upTo-holds : (S : Shape) (t : List ℕ) (f : ℕ → ℕ → ℕ) (x j : ℕ) → Holds S t f → x < S .most → j ≤ S .levels → upTo S t x j ≡ sum (f x) j
 unfolding upTo
 upTo-holds S t f x j h hx hj = sum-eq (λ r. getD t (S .levels * x + r) 0) (f x) j (λ r b. h .at x r hx (omega arith))
+
+-- after any rows their sums fit 16 bits, where twice the places for each rank do
+pub sums-fit : (S : Shape) → S .levels * (2 * S .most + 1) < 65536 → (bs t : List ℕ) (n : ℕ) → n ≤ S .most → Holds S t (tallied S bs n)
+    → (v : ℕ) → v < S .most → SumsFit S t v
+sums-fit S fits bs t n few h v hv j l =
+    omega (
+      arith,
+      upTo-holds S t (tallied S bs n) v j h hv l,
+      sum-bound (tallied S bs n v) (2 * S .most + 1) j (λ r b. omega (arith, tallied-le S bs n v r)),
+      mul-le-mul-right (2 * S .most + 1) l,
+    )
 
 -- before any row the tally holds nothing
 pub zeros-hold : (S : Shape) (bs t : List ℕ) → t ≡ replicate (S .levels * S .most) 0 → Holds S t (tallied S bs 0)

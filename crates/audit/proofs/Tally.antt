@@ -260,6 +260,11 @@ partly-le S bs v p x r h =
       limits (S .most) x (suc v),
     )
 
+-- and so is one for all rows
+pub tallied-le : (S : Shape) (bs : List ℕ) (k x r : ℕ) → tallied S bs k x r ≤ suc k + S .most
+unfolding partly
+tallied-le S bs k x r = omega (arith, partly-le S bs k 0 x r (omega arith))
+
 -- where twice the places fit 16 bits, no entry comes near their end
 pub partly-small : (S : Shape) → 2 * S .most < 65534 → (bs : List ℕ) (v p x r : ℕ) → v < S .most → p ≤ S .most → partly S bs v p x r < 65534
 partly-small S fits bs v p x r hv hp = omega (arith, partly-le S bs v p x r hp)

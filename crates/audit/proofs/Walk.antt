@@ -73,7 +73,7 @@ module _ (o : ℕ → Bool) (Q : ℕ → Type 0) where
   pub each-add : (p : ℕ) → ((w : ℕ) → w < p → T (o w) → Q w) → Q p → (w : ℕ) → w < p + 1 → T (o w) → Q w
   each-add p g h w l t = elim (eq? w p) [ inl e ↦ subst Q (sym e) h | inr d ↦ g w (omega arith) t ]
 
--- ---- a row below the top
+-- ---- a row of a rank below the highest
 
 module _ (S : Shape) (bs t : List ℕ) (v : ℕ) where
   pub walked-skips : Skips (ownsAt S bs v) (Walked S bs t v)
@@ -114,8 +114,8 @@ module _ (S : Shape) (bs t : List ℕ) (v : ℕ) where
   walked-small fits p r hv hp hr w x hx = omega (arith, w .tally .at x r hx hr, partly-small S fits bs v p x r hv hp)
 
   -- a row whose rank has no entry adds nothing
-  pub top-adds-none : S .levels ≤ rankAt bs v → Holds S t (tallied S bs v) → Holds S t (tallied S bs (v + 1))
-  top-adds-none h k = record {
+  pub highest-adds-none : S .levels ≤ rankAt bs v → Holds S t (tallied S bs v) → Holds S t (tallied S bs (v + 1))
+  highest-adds-none h k = record {
     long = k .long;
     at = λ x r hx hr. omega (arith, k .at x r hx hr, tallied-suc S bs v x r, share-other S bs v (S .most) x r (λ e. omega arith));
   }

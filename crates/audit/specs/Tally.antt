@@ -1,4 +1,4 @@
--- What the audit gathers on its one way over the rows: for each vertex x and each rank r of a level below the top, the number of edges at x whose owner
+-- What the audit gathers on its one way over the rows: for each vertex x and each rank r but the highest, the number of edges at x whose owner
 -- has rank r. An owner's rank is at least the other end's, so the count of x at j is the sum of these for r up to j (proofs/Phi.antt).
 -- Assumes nothing.
 use mathlib.Core.Path.{_≡_}

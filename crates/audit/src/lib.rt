@@ -1,36 +1,44 @@
 // Whether rack bytes are sound: any bytes of a rack's length, damaged in any way. One way over the rows tests the owners and gathers a
 // tally of the edges at each vertex, to which the counts are then held. The contracts cite specs/ and the facts of a sound rack in `model`.
 ghost use mathlib.Core.Path.{_≡_};
-ghost use Prim.Native.Nat.{ℕ, suc, _*_, _<_, _≤_};
+ghost use Prim.Native.Nat.{ℕ, _*_, _<_, _≤_};
 ghost use lib.ListN.{length};
 ghost use Rattle.model.specs.Shape.{low};
-ghost use Rattle.model.specs.State.{base};
-ghost use Rattle.model.specs.Bytes.{sizeAt, rankAt};
+ghost use Rattle.model.specs.State.{InRange};
+ghost use Rattle.model.specs.Bytes.{sizeAt, kindAt, rankAt};
 ghost use Rattle.model.specs.Sound.{sound as soundOf};
 ghost use Rattle.model.proofs.Facts.{Says, Mated};
 ghost use Rattle.layout.specs.Setters.{Sized};
-ghost use Rattle.audit.specs.Parts.{Count, Edges, Mate};
+ghost use Rattle.audit.specs.Parts.{Settings, Limits, SumsFit, Counted, Edges, Mate};
 
 mod rosters;
 mod rows;
 
-// Whether the counts of v are what the tally says, and below their thresholds.
-fn counts_of(rack: &[u8], tally: &[u16], v: usize) -> bool
+// Whether the counts of v are right: up to the top level what the tally says, and below their thresholds, and 0 above. Level 0 is looked at first: it
+// stands at every setting, and its threshold is 1.
+fn counts_of(rack: &[u8], tally: &[u16], v: usize, bars: &[u16], standing: &[u16]) -> bool
     requires { ⌜ Sized low (now rack) ⌝ }
     requires { ⌜ v < low .most ⌝ }
     requires { ⌜ length (now tally) ≡ low .levels * low .most ⌝ }
-    ensures { λ a. ⌜ Says a ((j : ℕ) → j ≤ base .top → Count low (now (rack .entry)) (now (tally .entry)) v j) ⌝ }
+    requires { ⌜ SumsFit low (now tally) v ⌝ }
+    requires { ⌜ Limits low (now rack) (now bars) (now standing) ⌝ }
+    ensures { λ a. ⌜ Says a (Counted low (now (rack .entry)) (now (tally .entry)) v) ⌝ }
 {
-    let top = layout::top();
-    let mut total: u32 = 0;
-    let mut j = 0;
-    while j <= top {
-        total += tally[layout::shape::LEVELS * v + j] as u32;
-        let x = layout::phi(rack, v, j);
-        if x as u32 != total {
+    if layout::phi(rack, v, 0) != 0 {
+        return false;
+    }
+    if tally[layout::shape::LEVELS * v] != 0 {
+        return false;
+    }
+    let mut total: u16 = 0;
+    let mut j = 1;
+    while j < layout::shape::LEVELS {
+        total += tally[layout::shape::LEVELS * v + j];
+        let x = layout::phi(rack, v, j) as u16;
+        if x != total * standing[j] {
             return false;
         }
-        if layout::threshold(j) <= x {
+        if bars[j] <= x {
             return false;
         }
         j += 1;
@@ -38,16 +46,20 @@ fn counts_of(rack: &[u8], tally: &[u16], v: usize) -> bool
     true
 }
 
-// Whether the counts of every vertex are what the tally says, and below their thresholds.
+// Whether the counts of every vertex are right.
 fn counts(rack: &[u8], tally: &[u16], n: usize) -> bool
     requires { ⌜ Sized low (now rack) ⌝ }
+    requires { ⌜ InRange (kindAt low (now rack)) ⌝ }
     requires { ⌜ n ≤ low .most ⌝ }
     requires { ⌜ length (now tally) ≡ low .levels * low .most ⌝ }
-    ensures { λ a. ⌜ Says a ((v : ℕ) → v < n → (j : ℕ) → j ≤ base .top → Count low (now (rack .entry)) (now (tally .entry)) v j) ⌝ }
+    requires { ⌜ ((v : ℕ) → v < n → SumsFit low (now tally) v) ⌝ }
+    ensures { λ a. ⌜ Says a ((v : ℕ) → v < n → Counted low (now (rack .entry)) (now (tally .entry)) v) ⌝ }
 {
+    let bars = layout::settings::thresholds(rack);
+    let standing = layout::settings::standing(rack);
     let mut v = 0;
     while v < n {
-        if !counts_of(rack, tally, v) {
+        if !counts_of(rack, tally, v, &bars, &standing) {
             return false;
         }
         v += 1;
@@ -111,15 +123,32 @@ fn mates(rack: &[u8], n: usize) -> bool
     true
 }
 
-// Whether the rows and the counts are right.
+// Whether the settings are in their ranges, and no roster above the top level has a vertex.
+fn settings(rack: &[u8]) -> bool
+    requires { ⌜ Sized low (now rack) ⌝ }
+    ensures { λ a. ⌜ Says a (Settings low (now (rack .entry))) ⌝ }
+{
+    let growth = layout::settings::growth(rack);
+    let top = layout::settings::top(rack);
+    if !layout::settings::in_range(growth as u32, top as u32) {
+        return false;
+    }
+    layout::unused::rosters_unused(rack, top as usize + 2)
+}
+
+// Whether the rows, the settings and the counts are right. The rows are walked alike at all settings, and these are looked at only then, so that nothing
+// of them is kept meanwhile.
 fn edges(rack: &[u8], n: usize) -> bool
     requires { ⌜ Sized low (now rack) ⌝ }
     requires { ⌜ n ≤ low .most ⌝ }
-    requires { ⌜ ((v : ℕ) → v < n → rankAt (now rack) v ≤ suc (base .top)) ⌝ }
+    requires { ⌜ ((v : ℕ) → v < n → rankAt (now rack) v ≤ low .levels) ⌝ }
     ensures { λ a. ⌜ Says a (Edges low (now (rack .entry)) n) ⌝ }
 {
     let mut tally = [0u16; layout::shape::LEVELS * layout::shape::MOST];
     if !rows::all(rack, &mut tally, n) {
+        return false;
+    }
+    if !settings(rack) {
         return false;
     }
     counts(rack, &tally, n)
@@ -128,7 +157,7 @@ fn edges(rack: &[u8], n: usize) -> bool
 // Whether the bytes are those of a sound rack.
 pub fn sound(rack: &[u8]) -> bool
     requires { ⌜ Sized low (now rack) ⌝ }
-    ensures { λ a. ⌜ a ≡ soundOf base low (now (rack .entry)) ⌝ }
+    ensures { λ a. ⌜ a ≡ soundOf low (now (rack .entry)) ⌝ }
 {
     let n = layout::size(rack);
     if n < 1 {

@@ -4,7 +4,6 @@ ghost use Prim.Native.Nat.{ℕ, suc, _+_, _*_, _<_, _≤_};
 ghost use lib.Dec.{T};
 ghost use lib.ListN.{length, getD};
 ghost use Rattle.model.specs.Shape.{low};
-ghost use Rattle.model.specs.State.{base};
 ghost use Rattle.model.specs.Bytes.{rankAt};
 ghost use Rattle.model.proofs.Facts.{Says};
 ghost use Rattle.layout.specs.Setters.{Sized};
@@ -40,7 +39,7 @@ fn add(tally: &mut [u16], v: usize, w: usize, r: usize)
     tally[here] += 1;
 }
 
-// Walks one word of row v, of rank r below the top. The bits of a word lead from edge to edge, and `x & (x - 1)` takes the lowest out.
+// Walks one word of row v, of a rank r below the highest. The bits of a word lead from edge to edge, and `x & (x - 1)` takes the lowest out.
 fn walk_word(rack: &[u8], tally: &mut [u16], v: usize, r: usize, k: usize) -> bool
     requires { ⌜ Sized low (now rack) ⌝ }
     requires { ⌜ v < low .most ⌝ }
@@ -63,7 +62,7 @@ fn walk_word(rack: &[u8], tally: &mut [u16], v: usize, r: usize, k: usize) -> bo
     true
 }
 
-// Walks row v, of rank r below the top: all its words, since a loop with a fixed number of turns is written out by the compiler.
+// Walks row v, of a rank r below the highest: all its words, since a loop with a fixed number of turns is written out by the compiler.
 fn walk_row(rack: &[u8], tally: &mut [u16], v: usize, r: usize) -> bool
     requires { ⌜ Sized low (now rack) ⌝ }
     requires { ⌜ v < low .most ⌝ }
@@ -83,7 +82,7 @@ fn walk_row(rack: &[u8], tally: &mut [u16], v: usize, r: usize) -> bool
     true
 }
 
-// Walks one word of row v, of the top rank: its edges add to no count, and only a second owner is looked for.
+// Walks one word of row v, of the highest rank: its edges add to no count, and only a second owner is looked for.
 fn once_word(rack: &[u8], v: usize, k: usize) -> bool
     requires { ⌜ Sized low (now rack) ⌝ }
     requires { ⌜ v < low .most ⌝ }
@@ -102,7 +101,7 @@ fn once_word(rack: &[u8], v: usize, k: usize) -> bool
     true
 }
 
-// Walks row v, of the top rank, as far as v itself: the edges to higher numbers are seen from there.
+// Walks row v, of the highest rank, as far as v itself: the edges to higher numbers are seen from there.
 fn once_row(rack: &[u8], v: usize) -> bool
     requires { ⌜ Sized low (now rack) ⌝ }
     requires { ⌜ v < low .most ⌝ }
@@ -122,7 +121,7 @@ fn once_row(rack: &[u8], v: usize) -> bool
 fn row(rack: &[u8], tally: &mut [u16], v: usize, n: usize) -> bool
     requires { ⌜ Sized low (now rack) ⌝ }
     requires { ⌜ n ≤ low .most ⌝ }
-    requires { ⌜ (v < n) × (rankAt (now rack) v ≤ suc (base .top)) ⌝ }
+    requires { ⌜ (v < n) × (rankAt (now rack) v ≤ low .levels) ⌝ }
     requires { ⌜ Holds low (now tally) (tallied low (now rack) v) ⌝ }
     ensures { λ a. ⌜ Says a (Row low (now (rack .entry)) n v) ⌝ }
     ensures { λ a. ⌜ (T a → Holds low (now (tally .exit)) (tallied low (now (rack .entry)) (v + 1))) ⌝ }
@@ -131,7 +130,7 @@ fn row(rack: &[u8], tally: &mut [u16], v: usize, n: usize) -> bool
         return false;
     }
     let r = layout::rank(rack, v) as usize;
-    if r <= layout::top() {
+    if r < layout::shape::LEVELS {
         return walk_row(rack, &mut *tally, v, r);
     }
     once_row(rack, v)
@@ -141,7 +140,7 @@ fn row(rack: &[u8], tally: &mut [u16], v: usize, n: usize) -> bool
 pub fn all(rack: &[u8], tally: &mut [u16], n: usize) -> bool
     requires { ⌜ Sized low (now rack) ⌝ }
     requires { ⌜ n ≤ low .most ⌝ }
-    requires { ⌜ ((v : ℕ) → v < n → rankAt (now rack) v ≤ suc (base .top)) ⌝ }
+    requires { ⌜ ((v : ℕ) → v < n → rankAt (now rack) v ≤ low .levels) ⌝ }
     requires { ⌜ Holds low (now tally) (tallied low (now rack) 0) ⌝ }
     ensures { λ a. ⌜ Says a ((v : ℕ) → v < n → Row low (now (rack .entry)) n v) ⌝ }
     ensures { λ a. ⌜ (T a → Holds low (now (tally .exit)) (tallied low (now (rack .entry)) n)) ⌝ }

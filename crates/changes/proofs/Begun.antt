@@ -6,7 +6,7 @@ use mathlib.Core.Bool.{not, _&&_}
 use Prim.Native.Nat.{ℕ, zero, suc, _≤_, _<_}
 use native.Mathlib.Omega.{arith}
 use lib.Dec.{T, eqb, eqb→eq}
-use Rattle.model.specs.State.{base, State, below, phi, pending}
+use Rattle.model.specs.State.{Rules, State, below, phi, pending}
 use Rattle.model.specs.Bytes.{noMate, mateEntry}
 use Rattle.model.specs.Valid.{Valid}
 use Rattle.model.specs.Moves.{none, found}
@@ -16,7 +16,6 @@ use Rattle.model.proofs.Limits.{phi-below, mateEntry-free, mateEntry-mate}
 use Rattle.theory.specs.Waiting.{marks, Paired}
 use Rattle.theory.proofs.Takings.{pending-is}
 use Rattle.theory.proofs.EdgeSets.{add-marks}
-use Rattle.theory.proofs.Matching.{base-pos}
 use Rattle.theory.proofs.Loops.{riser-stop, riser-a, riser-b, riser-next}
 use Rattle.moves.specs.Proper.{Ordered}
 use Rattle.edges.proofs.Changed.{add-size, add-high, add-low, add-rank, add-mate}
@@ -26,11 +25,11 @@ pub still : (s : State) → ((v : ℕ) → s .mate v ≡ v → s .rank v ≡ 0) 
 still s f v i t = let k = pending-is s i v t in omega (arith, f v (k .0), k .1)
 
 -- an edge more changes neither ranks nor mates
-pub add-still : (s : State) → Valid base s → (a b v i : ℕ) → T (pending (addEdge a b s) i v) → ⊥
+pub add-still : {R : Rules} (s : State) → Valid R s → (a b v i : ℕ) → T (pending (addEdge a b s) i v) → ⊥
 add-still s ok a b = still (addEdge a b s) (λ v e. add-rank a b s v ∙ ok .free-low v (sym (add-mate a b s v) ∙ e))
 
 -- mates name each other on one level, and an edge more changes nothing of that
-pub valid-paired : (s : State) → Valid base s → Paired (s .n) (marks s)
+pub valid-paired : {R : Rules} (s : State) → Valid R s → Paired (s .n) (marks s)
 valid-paired s ok = record {
   back = ok .mates-back;
   level = ok .mates-level;
@@ -65,15 +64,15 @@ unfolding reown withoutEdge
 drop-ordered s a b f v w t = f v w (and-left (s .owns v w) (not (isEdge a b v w)) t)
 
 -- The search for a rise: what it finds can be promoted.
-pub record Riser (a b i u : ℕ) (s : State) : Type 0 where
+pub record Riser (top a b i u : ℕ) (s : State) : Type 0 where
   pub end : (u ≡ a) ⊎ (u ≡ b)
   pub low : s .rank u ≤ i
-  pub level : i ≤ base .top
+  pub level : i ≤ top
   pub some : 1 ≤ below s u i
 
 -- a threshold that is reached says that there is a neighbour below
-reached : (s : State) (u i : ℕ) → base .thr i ≤ phi s u i → 1 ≤ below s u i
-reached s u i h = omega (arith, base-pos i, phi-below s u i)
+reached : (R : Rules) → ((j : ℕ) → 1 ≤ R .thr j) → (s : State) (u i : ℕ) → R .thr i ≤ phi s u i → 1 ≤ below s u i
+reached R pos s u i h = omega (arith, pos i, phi-below s u i)
 
 found-level : {i j u v : ℕ} → found i u ≡ found j v → i ≡ j
 found-level {i} {j} {u} {v} e = cc
@@ -82,35 +81,35 @@ found-vertex : {i j u v : ℕ} → found i u ≡ found j v → u ≡ v
 found-vertex {i} {j} {u} {v} e = cc
 
 -- the search that stopped at level j with vertex x
-stopped : (a b j x : ℕ) (s : State) (i u : ℕ) → suc j ≤ suc (base .top) → (x ≡ a) ⊎ (x ≡ b) → s .rank x ≤ j → base .thr j ≤ phi s x j
-    → found j x ≡ found i u → Riser a b i u s
-stopped a b j x s i u l c k h e =
+stopped : (R : Rules) → ((j : ℕ) → 1 ≤ R .thr j) → (a b j x : ℕ) (s : State) (i u : ℕ) → suc j ≤ suc (R .top) → (x ≡ a) ⊎ (x ≡ b) → s .rank x ≤ j → R .thr j ≤ phi s x j
+    → found j x ≡ found i u → Riser (R .top) a b i u s
+stopped R pos a b j x s i u l c k h e =
     let p : j ≡ i = found-level e in
     let q : x ≡ u = found-vertex e in
     record {
       end = elim c [ inl z ↦ inl (sym q ∙ z) | inr z ↦ inr (sym q ∙ z) ];
       low = omega (arith, ap (s .rank) q);
       level = omega arith;
-      some = reached s u i (subst (λ (y : ℕ). base .thr i ≤ phi s y i) q (subst (λ (y : ℕ). base .thr y ≤ phi s x y) p h));
+      some = reached R pos s u i (subst (λ (y : ℕ). R .thr i ≤ phi s y i) q (subst (λ (y : ℕ). R .thr y ≤ phi s x y) p h));
     }
 
 nowhere : (i u : ℕ) → none ≡ found i u → ⊥
 nowhere i u e = let z : _≡_ {A = ℕ} 0 1 = cc in omega arith
 
-pub riser-of : (a b m : ℕ) (s : State) (i u : ℕ) → m ≤ suc (base .top) → riser base a b m s ≡ found i u → Riser a b i u s
-riser-of a b zero s i u l e = absurd (nowhere i u (sym riser-zero ∙ e))
+pub riser-of : (R : Rules) → ((j : ℕ) → 1 ≤ R .thr j) → (a b m : ℕ) (s : State) (i u : ℕ) → m ≤ suc (R .top) → riser R a b m s ≡ found i u → Riser (R .top) a b i u s
+riser-of R pos a b zero s i u l e = absurd (nowhere i u (sym riser-zero ∙ e))
   where
-    riser-zero : riser base a b zero s ≡ none
+    riser-zero : riser R a b zero s ≡ none
     riser-zero = unfold riser in refl
-riser-of a b (suc j) s i u l e = elim (le? (s .rank a) j) [
-  | inr k ↦ absurd (nowhere i u (sym (riser-stop base a b j s (inl k)) ∙ e))
+riser-of R pos a b (suc j) s i u l e = elim (le? (s .rank a) j) [
+  | inr k ↦ absurd (nowhere i u (sym (riser-stop R a b j s (inl k)) ∙ e))
   | inl ka ↦ elim (le? (s .rank b) j) [
-    | inr k ↦ absurd (nowhere i u (sym (riser-stop base a b j s (inr k)) ∙ e))
-    | inl kb ↦ elim (le? (base .thr j) (phi s a j)) [
-      | inl ha ↦ stopped a b j a s i u l (inl refl) ka ha (sym (riser-a base a b j s ka kb ha) ∙ e)
-      | inr ha ↦ elim (le? (base .thr j) (phi s b j)) [
-        | inl hb ↦ stopped a b j b s i u l (inr refl) kb hb (sym (riser-b base a b j s ka kb ha hb) ∙ e)
-        | inr hb ↦ riser-of a b j s i u (omega arith) (sym (riser-next base a b j s ka kb ha hb) ∙ e)
+    | inr k ↦ absurd (nowhere i u (sym (riser-stop R a b j s (inr k)) ∙ e))
+    | inl kb ↦ elim (le? (R .thr j) (phi s a j)) [
+      | inl ha ↦ stopped R pos a b j a s i u l (inl refl) ka ha (sym (riser-a R a b j s ka kb ha) ∙ e)
+      | inr ha ↦ elim (le? (R .thr j) (phi s b j)) [
+        | inl hb ↦ stopped R pos a b j b s i u l (inr refl) kb hb (sym (riser-b R a b j s ka kb ha hb) ∙ e)
+        | inr hb ↦ riser-of R pos a b j s i u (omega arith) (sym (riser-next R a b j s ka kb ha hb) ∙ e)
       ]
     ]
   ]

@@ -6,8 +6,8 @@ use Prim.Native.Nat.{ℕ, suc, _-_, _*_, _≤_, _<_}
 use native.Mathlib.Omega.{arith}
 use lib.ListN.{length, take}
 use Rattle.model.specs.Shape.{Shape}
-use Rattle.model.specs.State.{base, State}
-use Rattle.model.specs.Bytes.{read, write}
+use Rattle.model.specs.State.{Rules, rules, State}
+use Rattle.model.specs.Bytes.{rulesAt, kindAt, topAt, read, write}
 use Rattle.model.specs.Moves.{Run, part, promote, settleIn, settle}
 use Rattle.model.specs.Change.{start, startParted}
 use Rattle.model.proofs.Tests.{le?}
@@ -19,7 +19,7 @@ use Rattle.theory.proofs.Queues.{none-waits, lift-paired}
 use Rattle.theory.proofs.Waiting.{parted-lists, parted-queues}
 use Rattle.queue.proofs.Places.{length-first}
 use Rattle.moves.specs.Proper.{Proper, Ordered, Held}
-use Rattle.moves.proofs.Held.{held-few, held-of, reads-as}
+use Rattle.moves.proofs.Held.{rules-as, held-few, held-of, reads-as}
 use Rattle.moves.proofs.Keeps.{part-proper}
 use Rattle.settling.specs.declared.tally.Tally.{Tally}
 use Rattle.settling.specs.Settling.{QueueIs, queueIn, running, HoldsWaiting, Room, Left}
@@ -63,8 +63,9 @@ begins S bs places {t} z = record {
 }
 
 -- the settling begins at bs, places and t, where r has come
-pub record Onward (S : Shape) (words : List ℕ) (r : Run) (bs places : List ℕ) (t : Tally) : Type 0 where
+pub record Onward (S : Shape) (R : Rules) (words : List ℕ) (r : Run) (bs places : List ℕ) (t : Tally) : Type 0 where
   pub held : Held S bs
+  pub rules : rulesAt bs ≡ R
   pub ordered : Ordered (read S bs)
   pub holds : HoldsWaiting places t (read S bs)
   pub room : Room (suc (length words)) 0 t
@@ -75,28 +76,30 @@ ran-of : {r q : Run} {bs places : List ℕ} {t : Tally} → Left r bs places t �
 ran-of l s = record { rack = l .rack ∙ ap write (s .state); draws = l .draws ∙ s .draws; falls = l .falls ∙ s .falls }
 
 -- the settling has no eye for new pairs
-settled-same : (words : List ℕ) {r q : Run} → SameRun r q → SameRun (settle base words r) (settle base words q)
+settled-same : (R : Rules) (words : List ℕ) {r q : Run} → SameRun r q → SameRun (settle R words r) (settle R words q)
 unfolding settle
-settled-same words {r} {q} s =
-    subst (λ (f : ℕ). SameRun (settleIn base words (r .state .n * suc (base .top)) r) (settleIn base words f q))
-    (ap (λ (x : State). x .n * suc (base .top)) (s .state)) (settle-same words (r .state .n * suc (base .top)) r q s)
+settled-same R words {r} {q} s =
+    subst (λ (f : ℕ). SameRun (settleIn R words (r .state .n * suc (R .top)) r) (settleIn R words f q))
+    (ap (λ (x : State). x .n * suc (R .top)) (s .state)) (settle-same R words (r .state .n * suc (R .top)) r q s)
 
 -- what the settling leaves is left of the whole
-pub settled-on : {S : Shape} (words : List ℕ) {r : Run} {bs places bs′ places′ : List ℕ} {t t′ : Tally} → Onward S words r bs places t
-    → Left (settle base words (running S bs places t)) bs′ places′ t′ → Ended (settle base words r) bs′ t′
-settled-on words n l = ran-of l (settled-same words (n .same))
+pub settled-on : {S : Shape} {R : Rules} (words : List ℕ) {r : Run} {bs places bs′ places′ : List ℕ} {t t′ : Tally} → Onward S R words r bs places t
+    → Left (settle (rulesAt bs) words (running S bs places t)) bs′ places′ t′ → Ended (settle R words r) bs′ t′
+settled-on {S} {R} words {r} {bs} {places} {bs′} {places′} {t} {t′} n l =
+    ran-of (subst (λ (Q : Rules). Left (settle Q words (running S bs places t)) bs′ places′ t′) (n .rules) l) (settled-same R words (n .same))
 
 -- after the riser's promotion
-pub promoted-next : {S : Shape} (words : List ℕ) (i u : ℕ) {bs₀ : List ℕ} (places₀ : List ℕ) {t₀ : Tally} → Begun S bs₀ → Liftable (read S bs₀) i u
+pub promoted-next : {S : Shape} (words : List ℕ) (i u : ℕ) {bs₀ : List ℕ} (places₀ : List ℕ) {t₀ : Tally} → Begun S bs₀ → Liftable (topAt bs₀) (read S bs₀) i u
     → Fresh t₀ → {bs places : List ℕ} {t : Tally} → Left (promote words i u (running S bs₀ places₀ t₀)) bs places t
-    → Onward S words (promote words i u (start (read S bs₀))) bs places t
+    → Onward S (rulesAt bs₀) words (promote words i u (start (read S bs₀))) bs places t
 promoted-next {S} words i u {bs₀} places₀ {t₀} b m z {bs} {places} {t} l =
     let r : Run = promote words i u (running S bs₀ places₀ t₀) in
-    let k : SameEdges S (read S bs₀) (r .state) =
+    let k : SameEdges (kindAt S bs₀) (read S bs₀) (r .state) =
     promote-kept words i u (running S bs₀ places₀ t₀) (b .held .proper) (b .ordered) (m .inside) (m .level) (m .low) (m .some) in
     let s : SameRun (running S bs places t) r = left-run l (k .proper) in
     record {
       held = held-of bs (r .state) (l .rack) (k .proper);
+      rules = rules-as bs (r .state) (l .rack) (k .proper);
       ordered = subst Ordered (sym (s .state)) (k .ordered);
       holds = subst (HoldsWaiting places t) (sym (s .state)) (l .holds);
       room = record {
@@ -127,13 +130,14 @@ module _ {S : Shape} {bs : List ℕ} (g : Begun S bs) {a b : ℕ} (ends : (a < r
   }
 
   -- where the parting leaves the run
-  pub parted-next : (words : List ℕ) {bs′ : List ℕ} → bs′ ≡ write (part a (read S bs)) → Onward S words (startParted a b (read S bs)) bs′ places t
+  pub parted-next : (words : List ℕ) {bs′ : List ℕ} → bs′ ≡ write (part a (read S bs)) → Onward S (rulesAt bs) words (startParted a b (read S bs)) bs′ places t
   unfolding startParted part
   parted-next words {bs′} e =
-      let p : Proper S (part a (read S bs)) = part-proper (read S bs) (g .held .proper) a (ends .0) in
+      let p : Proper (kindAt S bs) (part a (read S bs)) = part-proper (read S bs) (g .held .proper) a (ends .0) in
       let r : read S bs′ ≡ part a (read S bs) = reads-as bs′ (part a (read S bs)) e p in
       record {
         held = held-of bs′ (part a (read S bs)) e p;
+        rules = rules-as bs′ (part a (read S bs)) e p;
         ordered = subst Ordered (sym r) (g .ordered);
         holds = subst (HoldsWaiting places t) (sym r) parted-holds;
         room = record { draws = omega (arith, z .0); falls = omega (arith, z .1) };

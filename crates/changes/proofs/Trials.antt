@@ -7,7 +7,7 @@ use Prim.Native.Nat.{ℕ, _/_, _≤_, _<_}
 use native.Mathlib.Omega.{arith}
 use lib.ListN.{length}
 use Rattle.model.specs.Shape.{Shape, low}
-use Rattle.model.specs.State.{State, edges}
+use Rattle.model.specs.State.{Rules, State, edges}
 use Rattle.model.specs.Moves.{Run}
 use Rattle.model.specs.Change.{lower}
 use Rattle.model.proofs.Tests.{le?, leb-yes, leb-no, true-T}
@@ -27,8 +27,8 @@ workable-held bs (Rise i u) a = a .0 .held
 workable-held bs (Part a b) x = sounded-held bs (x .0)
 
 -- what is left of the run of a work that is known
-pub work-as : (words : List ℕ) (s : State) {w w′ : Work} {bs : List ℕ} {t : Tally} → w ≡ w′ → Ended (workRun words w′ s) bs t → Ended (workRun words w s) bs t
-work-as words s {bs = bs} {t} e x = subst (λ (y : Work). Ended (workRun words y s) bs t) (sym e) x
+pub work-as : (R : Rules) (words : List ℕ) (s : State) {w w′ : Work} {bs : List ℕ} {t : Tally} → w ≡ w′ → Ended (workRun R words w′ s) bs t → Ended (workRun R words w s) bs t
+work-as R words s {bs = bs} {t} e x = subst (λ (y : Work). Ended (workRun R words y s) bs t) (sym e) x
 
 module _ {r : Run} {words bs bs′ : List ℕ} {t : Tally} (e : Ended r bs′ t) where
   -- the words sufficed ..

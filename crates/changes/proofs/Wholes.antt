@@ -8,17 +8,17 @@ use native.Mathlib.Omega.{arith}
 use lib.Dec.{T}
 use lib.ListN.{length}
 use Rattle.model.specs.Shape.{Shape}
-use Rattle.model.specs.State.{base, State, edge, edges, pending}
-use Rattle.model.specs.Bytes.{rankAt, mateAt, read, write, mateEntry}
-use Rattle.model.specs.Moves.{Run, none, found, promote, settle}
+use Rattle.model.specs.State.{Rules, State, edge, edges, pending}
+use Rattle.model.specs.Bytes.{rulesAt, kindAt, topAt, rankAt, mateAt, read, write, mateEntry}
+use Rattle.model.specs.Moves.{Found, Run, none, found, promote, settle}
 use Rattle.model.specs.Change.{start, startParted, reown, addEdge, riser, add, drop}
+use Rattle.model.proofs.Shapes.{thr-one, thr-pos}
 use Rattle.model.proofs.Tests.{le?, T-true, eqb-yes, eqb-no}
 use Rattle.theory.specs.Waiting.{marks, Paired}
 use Rattle.theory.specs.Quick.{Suffices}
-use Rattle.theory.proofs.Matching.{base-one, base-pos}
 use Rattle.theory.proofs.Making.{add-quick, drop-quick}
 use Rattle.moves.specs.Proper.{Proper, Ordered, Held}
-use Rattle.moves.proofs.Held.{held-of, held-small, held-rank, held-mate, reads-as, valid-proper, valid-ordered}
+use Rattle.moves.proofs.Held.{proper-pos, rules-as, held-of, held-small, held-rank, held-mate, reads-as, valid-proper, valid-ordered}
 use Rattle.edges.proofs.Changed.{dropEdge, add-size, add-proper, add-joined, drop-proper}
 use Rattle.edges.proofs.Undone.{undone}
 use Rattle.settling.specs.declared.tally.Tally.{Tally}
@@ -28,9 +28,9 @@ use Rattle.changes.specs.declared.working.Work.the-variants.{Rise, Part}
 use Rattle.changes.proofs.Begun.{still, add-still, add-ordered, drop-ordered, Riser, riser-of, valid-paired, add-paired, entry-names, entry-not}
 use Rattle.changes.proofs.Chains.{Fresh}
 
-sounded-proper : {S : Shape} (bs : List ℕ) → Sounded S bs → Proper S (read S bs)
+sounded-proper : {S : Shape} (bs : List ℕ) → Sounded S bs → Proper (kindAt S bs) (read S bs)
 unfolding read
-sounded-proper {S} bs s = valid-proper (read S bs) refl (s .good) (s .room) (s .valid)
+sounded-proper {S} bs s = valid-proper (read S bs) refl (s .kind) (s .valid)
 
 pub sounded-held : {S : Shape} (bs : List ℕ) → Sounded S bs → Held S bs
 sounded-held bs s = record { written = s .written; proper = sounded-proper bs s }
@@ -42,7 +42,7 @@ pub record Added (S : Shape) (bs₀ : List ℕ) (a b : ℕ) (bs : List ℕ) : Ty
   pub rack : bs ≡ write (addEdge a b (read S bs₀))
 
 module _ {S : Shape} {bs₀ : List ℕ} {a b : ℕ} {bs : List ℕ} (x : Added S bs₀ a b bs) where
-  added-proper : Proper S (addEdge a b (read S bs₀))
+  added-proper : Proper (kindAt S bs₀) (addEdge a b (read S bs₀))
   added-proper =
       add-proper a b (read S bs₀) (x .ends .2) (x .ends .0, x .ends .1) (λ h. subst T (x .ends .3) h)
       (sounded-proper bs₀ (x .from))
@@ -80,19 +80,34 @@ module _ {S : Shape} {bs₀ : List ℕ} {a b : ℕ} {bs : List ℕ} (x : Added S
       subst (λ (l : List ℕ). Held S l × ((a < read S l .n) × (b < read S l .n) × (a ≢ b) × (edge (read S l) a b ≡ true))) (sym e)
       (added-begun .held, (added-inside .0, added-inside .1, x .ends .2, added-there))
 
+  -- the settings stay, and so the search is that of the definition
+  added-rules : rulesAt bs ≡ rulesAt bs₀
+  added-rules = rules-as bs (addEdge a b (read S bs₀)) (x .rack) added-proper
+
+  pos : (j : ℕ) → 1 ≤ rulesAt bs₀ .thr j
+  pos = thr-pos (x .from .kind)
+
+  abbrev search : Rules → State → Found
+  search R s = riser R a b (suc (R .top)) s
+
+  searched : {y : Found} → search (rulesAt bs) (read S bs) ≡ y → search (rulesAt bs₀) (addEdge a b (read S bs₀)) ≡ y
+  searched {y} f =
+      subst (λ (s : State). search (rulesAt bs₀) s ≡ y) added-read (subst (λ (R : Rules). search R (read S bs) ≡ y) added-rules f)
+
   -- no level is reached: finished
-  pub added-none : (words : List ℕ) → riser base a b (suc (base .top)) (read S bs) ≡ none → {t : Tally} → Fresh t
-      → Tried (add base words a b (read S bs₀)) words bs₀ bs t
+  pub added-none : (words : List ℕ) → riser (rulesAt bs) a b (suc (topAt bs)) (read S bs) ≡ none → {t : Tally} → Fresh t
+      → Tried (add (rulesAt bs₀) words a b (read S bs₀)) words bs₀ bs t
   unfolding add start
   added-none words f z =
-      rw (subst (λ (s : State). riser base a b (suc (base .top)) s ≡ none) added-read f, add)
+      rw (searched f, add)
       (record { draws = z .0; falls = z .1; made = λ h. x .rack; kept = λ h. absurd (omega (arith, z .0)) })
 
   -- the riser is promoted, and the settling follows
-  module _ {i u : ℕ} (f : riser base a b (suc (base .top)) (read S bs) ≡ found i u) where
-    pub added-riser : Liftable (read S bs) i u
+  module _ {i u : ℕ} (f : riser (rulesAt bs) a b (suc (topAt bs)) (read S bs) ≡ found i u) where
+    pub added-riser : Liftable (topAt bs) (read S bs) i u
     added-riser =
-        let r : Riser a b i u (read S bs) = riser-of a b (suc (base .top)) (read S bs) i u (omega arith) f in
+        let pos : (j : ℕ) → 1 ≤ rulesAt bs .thr j = proper-pos (added-begun .held .proper) in
+        let r : Riser (topAt bs) a b i u (read S bs) = riser-of (rulesAt bs) pos a b (suc (topAt bs)) (read S bs) i u (omega arith) f in
         record {
           inside = elim (r .end) [ inl z ↦ omega (arith, added-inside .0) | inr z ↦ omega (arith, added-inside .1) ];
           low = r .low;
@@ -100,29 +115,28 @@ module _ {S : Shape} {bs₀ : List ℕ} {a b : ℕ} {bs : List ℕ} (x : Added S
           some = r .some;
         }
 
-    added-is : (words : List ℕ) → add base words a b (read S bs₀) ≡ workRun words (Rise i u) (read S bs)
+    added-is : (words : List ℕ) → add (rulesAt bs₀) words a b (read S bs₀) ≡ workRun (rulesAt bs) words (Rise i u) (read S bs)
     unfolding add
     added-is words =
-        rw (subst (λ (s : State). riser base a b (suc (base .top)) s ≡ found i u) added-read f, add)
-        (ap (λ (s : State). settle base words (promote words i u (start s))) (sym added-read))
+        rw (searched f, add) (sym (λ k. settle (added-rules k) words (promote words i u (start (added-read k)))))
 
     -- words that are sure to suffice
-    pub added-enough : (words : List ℕ) → Enough true (read S bs) i 1 words → workRun words (Rise i u) (read S bs) .draws ≤ length words
+    pub added-enough : (words : List ℕ) → Enough true (read S bs) i 1 words → workRun (rulesAt bs) words (Rise i u) (read S bs) .draws ≤ length words
     added-enough words q =
         let n : read S bs .n ≡ read S bs₀ .n = ap (λ (s : State). s .n) added-read ∙ add-size a b (read S bs₀) in
-        let few = add-quick base base-pos (read S bs₀) (x .from .valid) words a b (x .ends .0) (x .ends .1) (x .ends .2)
-        (λ h. subst T (x .ends .3) h) base-one (subst (λ (s : State). riser base a b (suc (base .top)) s ≡ found i u) added-read f)
+        let few = add-quick (rulesAt bs₀) pos (read S bs₀) (x .from .valid) words a b (x .ends .0) (x .ends .1) (x .ends .2)
+        (λ h. subst T (x .ends .3) h) (thr-one (kindAt S bs₀)) (searched f)
         (subst (λ (m : ℕ). Suffices m (edges (addEdge a b (read S bs₀))) i 1 words) n
         (subst (λ (s : State). Suffices (read S bs .n) (edges s) i 1 words) added-read q)) in
         omega (arith, few, ap (λ (r : Run). r .draws) (added-is words))
 
     -- it is made, or the edge is taken out again
-    module _ (words : List ℕ) {bs′ : List ℕ} {t : Tally} (r : Tried (workRun words (Rise i u) (read S bs)) words bs bs′ t) where
-      pub added-made : t .draws ≤ length words → Tried (add base words a b (read S bs₀)) words bs₀ bs′ t
+    module _ (words : List ℕ) {bs′ : List ℕ} {t : Tally} (r : Tried (workRun (rulesAt bs) words (Rise i u) (read S bs)) words bs bs′ t) where
+      pub added-made : t .draws ≤ length words → Tried (add (rulesAt bs₀) words a b (read S bs₀)) words bs₀ bs′ t
       added-made h = rw (added-is words) (record { draws = r .draws; falls = r .falls; made = r .made; kept = λ l. absurd (omega arith) })
 
       pub added-back : length words < t .draws → {back : List ℕ} → back ≡ write (dropEdge a b (read S bs′))
-          → Tried (add base words a b (read S bs₀)) words bs₀ back t
+          → Tried (add (rulesAt bs₀) words a b (read S bs₀)) words bs₀ back t
       added-back h e = rw (added-is words) (record {
         draws = r .draws;
         falls = r .falls;
@@ -137,7 +151,7 @@ pub record Dropped (S : Shape) (bs₀ : List ℕ) (a b : ℕ) (bs : List ℕ) : 
   pub rack : bs ≡ write (dropEdge a b (read S bs₀))
 
 module _ {S : Shape} {bs₀ : List ℕ} {a b : ℕ} {bs : List ℕ} (x : Dropped S bs₀ a b bs) where
-  dropped-proper : Proper S (dropEdge a b (read S bs₀))
+  dropped-proper : Proper (kindAt S bs₀) (dropEdge a b (read S bs₀))
   dropped-proper = drop-proper a b (read S bs₀) (sounded-proper bs₀ (x .from))
 
   dropped-read : read S bs ≡ dropEdge a b (read S bs₀)
@@ -164,12 +178,17 @@ module _ {S : Shape} {bs₀ : List ℕ} {a b : ℕ} {bs : List ℕ} (x : Dropped
   unfolding reown
   dropped-mates m = ap (λ (s : State). s .mate a) dropped-read ∙ m
 
-  pub dropped-pair : (words : List ℕ) {bs′ : List ℕ} {t : Tally} → Ended (settle base words (startParted a b (read S bs))) bs′ t
-      → Ended (workRun words (Part a b) (read S bs₀)) bs′ t
-  dropped-pair words {bs′} {t} r = subst (λ (s : State). Ended (settle base words (startParted a b s)) bs′ t) dropped-read r
+  dropped-rules : rulesAt bs ≡ rulesAt bs₀
+  dropped-rules = rules-as bs (dropEdge a b (read S bs₀)) (x .rack) dropped-proper
+
+  pub dropped-pair : (words : List ℕ) {bs′ : List ℕ} {t : Tally} → Ended (settle (rulesAt bs) words (startParted a b (read S bs))) bs′ t
+      → Ended (workRun (rulesAt bs₀) words (Part a b) (read S bs₀)) bs′ t
+  dropped-pair words {bs′} {t} r =
+      subst (λ (s : State). Ended (settle (rulesAt bs₀) words (startParted a b s)) bs′ t) dropped-read
+      (subst (λ (R : Rules). Ended (settle R words (startParted a b (read S bs))) bs′ t) dropped-rules r)
 
   -- a loose edge: no level changes
-  pub dropped-loose : (words : List ℕ) → read S bs₀ .mate a ≢ b → {t : Tally} → Fresh t → Tried (drop base words a b (read S bs₀)) words bs₀ bs t
+  pub dropped-loose : (words : List ℕ) → read S bs₀ .mate a ≢ b → {t : Tally} → Fresh t → Tried (drop (rulesAt bs₀) words a b (read S bs₀)) words bs₀ bs t
   unfolding drop start
   dropped-loose words d z =
       rw (eqb-no (read S bs₀ .mate a) b d, drop)
@@ -189,7 +208,7 @@ module _ {S : Shape} {bs : List ℕ} (ok : Sounded S bs) {a b : ℕ} (ends : (a 
       pub joins : k ≡ b → Joins (read S bs) a b
       joins e = record {
         ends = ends;
-        mates = entry-names (read S bs) a b (ends .2) (omega (arith, held-small held b (ends .1), ok .good .named)) (sym entry ∙ e);
+        mates = entry-names (read S bs) a b (ends .2) (omega (arith, held-small held b (ends .1), ok .kind .shape .named)) (sym entry ∙ e);
       }
 
       pub loose : k ≢ b → read S bs .mate a ≢ b
@@ -207,16 +226,16 @@ module _ {S : Shape} {bs : List ℕ} (ok : Sounded S bs) {a b : ℕ} (ends : (a 
         )
 
     module _ (words : List ℕ) (j : Joins (read S bs) a b) where
-      pair-is : drop base words a b (read S bs) ≡ workRun words (Part a b) (read S bs)
+      pair-is : drop (rulesAt bs) words a b (read S bs) ≡ workRun (rulesAt bs) words (Part a b) (read S bs)
       unfolding drop
       pair-is = rw (eqb-yes (read S bs .mate a) b (j .mates), drop) refl
 
       -- words that are sure to suffice
-      pub pair-enough : {i : ℕ} → read S bs .rank a ≡ suc i → Enough true (read S bs) i 2 words → workRun words (Part a b) (read S bs) .draws ≤ length words
+      pub pair-enough : {i : ℕ} → read S bs .rank a ≡ suc i → Enough true (read S bs) i 2 words → workRun (rulesAt bs) words (Part a b) (read S bs) .draws ≤ length words
       pair-enough l q =
-          let few = drop-quick base base-pos (read S bs) (ok .valid) words a b (ends .0) (ends .1) (ends .2) base-one (j .mates) l q in
+          let few = drop-quick (rulesAt bs) (thr-pos (ok .kind)) (read S bs) (ok .valid) words a b (ends .0) (ends .1) (ends .2) (thr-one (kindAt S bs)) (j .mates) l q in
           omega (arith, few, ap (λ (r : Run). r .draws) pair-is)
 
-      pub pair-tried : {bs′ : List ℕ} {t : Tally} → Tried (workRun words (Part a b) (read S bs)) words bs bs′ t
-          → Tried (drop base words a b (read S bs)) words bs bs′ t
+      pub pair-tried : {bs′ : List ℕ} {t : Tally} → Tried (workRun (rulesAt bs) words (Part a b) (read S bs)) words bs bs′ t
+          → Tried (drop (rulesAt bs) words a b (read S bs)) words bs bs′ t
       pair-tried r = rw pair-is r

@@ -5,9 +5,9 @@ use mathlib.Core.Bool.{Bool, true, false, _&&_, _||_}
 use mathlib.Core.List.{List}
 use Prim.Native.Nat.{ℕ, zero, suc, _≤_, _<_}
 use lib.Dec.{T, eqb, ltb}
-use Rattle.model.specs.Shape.{Shape, GoodShape}
-use Rattle.model.specs.State.{base, State, edge, below, pending, pairs}
-use Rattle.model.specs.Bytes.{read, write}
+use Rattle.model.specs.Shape.{Shape}
+use Rattle.model.specs.State.{Rules, GoodKind, State, edge, below, pending, pairs}
+use Rattle.model.specs.Bytes.{kindAt, rulesAt, read, write}
 use Rattle.model.specs.Valid.{Valid}
 use Rattle.model.specs.Moves.{Run}
 use Rattle.model.specs.Change.{Change, Answer as AnswerOf, lower, upper, add, drop}
@@ -16,12 +16,11 @@ use Rattle.moves.specs.Proper.{Ordered, Held}
 use Rattle.settling.specs.declared.tally.Tally.{Tally}
 use Rattle.changes.specs.declared.Answer.{Answer}
 
--- the bytes are the writing of a valid state of a good shape, with room for the levels: exactly the sound racks are (model, proofs/Bridge.antt)
+-- the bytes are the writing of a state of a good kind, valid by its own rules: exactly the sound racks are (model, proofs/Bridge.antt)
 pub record Sounded (S : Shape) (bs : List ℕ) : Type 0 where
-  pub good : GoodShape S
-  pub room : base .top < S .levels
+  pub kind : GoodKind (kindAt S bs)
   pub written : bs ≡ write (read S bs)
-  pub valid : Valid base (read S bs)
+  pub valid : Valid (rulesAt bs) (read S bs)
 
 -- where the moves of a change begin: a proper rack with owners in order and mates that name each other, on which nothing is pending
 pub record Begun (S : Shape) (bs : List ℕ) : Type 0 where
@@ -31,10 +30,10 @@ pub record Begun (S : Shape) (bs : List ℕ) : Type 0 where
   pub still : (v i : ℕ) → T (pending (read S bs) i v) → ⊥
 
 -- u can be promoted to level i
-pub record Liftable (s : State) (i u : ℕ) : Type 0 where
+pub record Liftable (top : ℕ) (s : State) (i u : ℕ) : Type 0 where
   pub inside : u < s .n
   pub low : s .rank u ≤ i
-  pub level : i ≤ base .top
+  pub level : i ≤ top
   pub some : 1 ≤ below s u i
 
 -- none of 7 to 11 fits
@@ -45,10 +44,10 @@ pub record Acceptable (s : State) (code a b : ℕ) : Type 0 where
   pub drops : code ≢ 1 → edge s a b ≡ true
 
 -- the moves of a change that is accepted
-unfoldable pub acceptedRun : State → Change → Run
-acceptedRun s c = elim (eqb (c .code) 1) [
-  | true ↦ add base (c .words) (lower (c .a) (c .b)) (upper (c .a) (c .b)) s
-  | false ↦ drop base (c .words) (lower (c .a) (c .b)) (upper (c .a) (c .b)) s
+unfoldable pub acceptedRun : Rules → State → Change → Run
+acceptedRun R s c = elim (eqb (c .code) 1) [
+  | true ↦ add R (c .words) (lower (c .a) (c .b)) (upper (c .a) (c .b)) s
+  | false ↦ drop R (c .words) (lower (c .a) (c .b)) (upper (c .a) (c .b)) s
 ]
 
 -- what a run leaves: the rack's bytes and the tally

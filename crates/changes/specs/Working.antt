@@ -7,8 +7,8 @@ use mathlib.Core.List.{List}
 use Prim.Native.Nat.{ℕ, _≤_, _<_}
 use lib.ListN.{length}
 use Rattle.model.specs.Shape.{Shape}
-use Rattle.model.specs.State.{base, State, edge, edges}
-use Rattle.model.specs.Bytes.{read, write}
+use Rattle.model.specs.State.{Rules, State, edge, edges}
+use Rattle.model.specs.Bytes.{topAt, read, write}
 use Rattle.model.specs.Moves.{Run, promote, settle}
 use Rattle.model.specs.Change.{start, startParted, reown, withoutEdge}
 use Rattle.theory.specs.Quick.{Suffices}
@@ -24,13 +24,13 @@ pub record Joins (s : State) (a b : ℕ) : Type 0 where
 
 -- from where it can be done: for a rise the new edge is there already, and for a parting the old one is there still
 abbrev pub Workable : Shape → List ℕ → Work → Type 0
-Workable S bs (Rise i u) = Begun S bs × Liftable (read S bs) i u
+Workable S bs (Rise i u) = Begun S bs × Liftable (topAt bs) (read S bs) i u
 Workable S bs (Part a b) = Sounded S bs × Joins (read S bs) a b
 
 -- the run that it is
-abbrev pub workRun : List ℕ → Work → State → Run
-workRun words (Rise i u) s = settle base words (promote words i u (start s))
-workRun words (Part a b) s = settle base words (startParted a b (reown s (withoutEdge (s .owns) a b)))
+abbrev pub workRun : Rules → List ℕ → Work → State → Run
+workRun R words (Rise i u) s = settle R words (promote words i u (start s))
+workRun R words (Part a b) s = settle R words (startParted a b (reown s (withoutEdge (s .owns) a b)))
 
 -- What is left of a run from the bytes bs: its figures, and its rack if no more words were used than are lent, and otherwise the bytes as they were.
 pub record Tried (r : Run) (words bs bs′ : List ℕ) (t : Tally) : Type 0 where

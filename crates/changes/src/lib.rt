@@ -5,8 +5,8 @@ ghost use mathlib.Core.Bool.{true, false};
 ghost use mathlib.Core.List.{[]};
 ghost use Prim.Native.Nat.{_<_};
 ghost use Rattle.model.specs.Shape.{low};
-ghost use Rattle.model.specs.State.{base, edge, pairs as pairsOf};
-ghost use Rattle.model.specs.Bytes.{read, write};
+ghost use Rattle.model.specs.State.{edge, pairs as pairsOf};
+ghost use Rattle.model.specs.Bytes.{rulesAt, read, write};
 ghost use Rattle.model.specs.Change.{lower as lowerOf, upper as upperOf, add as added, drop as dropped, early, refused as refusedOf, change as changeOf};
 ghost use Rattle.moves.specs.Proper.{Held};
 ghost use Rattle.changes.specs.Working.{Tried};
@@ -108,7 +108,7 @@ fn number(rack: &[u8], code: u32, a: u32, b: u32) -> u32
 fn add(rack: &mut [u8], a: usize, b: usize, words: &[u32]) -> Tally
     requires { ⌜ Sounded low (now rack) ⌝ }
     requires { ⌜ (a < read low (now rack) .n) × (b < read low (now rack) .n) × (a ≢ b) × (edge (read low (now rack)) a b ≡ false) ⌝ }
-    ensures { λ r. ⌜ Tried (added base (now (words .entry)) a b (read low (now (rack .entry)))) (now (words .entry)) (now (rack .entry)) (now (rack .exit)) r ⌝ }
+    ensures { λ r. ⌜ Tried (added (rulesAt (now (rack .entry))) (now (words .entry)) a b (read low (now (rack .entry)))) (now (words .entry)) (now (rack .entry)) (now (rack .exit)) r ⌝ }
 {
     edges::add_edge(rack, a, b);
     let edges::Reached::At { i, u } = edges::riser(rack, a, b) else {
@@ -128,7 +128,7 @@ fn add(rack: &mut [u8], a: usize, b: usize, words: &[u32]) -> Tally
 fn drop(rack: &mut [u8], a: usize, b: usize, words: &[u32]) -> Tally
     requires { ⌜ Sounded low (now rack) ⌝ }
     requires { ⌜ (a < read low (now rack) .n) × (b < read low (now rack) .n) × (a ≢ b) × (edge (read low (now rack)) a b ≡ true) ⌝ }
-    ensures { λ r. ⌜ Tried (dropped base (now (words .entry)) a b (read low (now (rack .entry)))) (now (words .entry)) (now (rack .entry)) (now (rack .exit)) r ⌝ }
+    ensures { λ r. ⌜ Tried (dropped (rulesAt (now (rack .entry))) (now (words .entry)) a b (read low (now (rack .entry)))) (now (words .entry)) (now (rack .entry)) (now (rack .exit)) r ⌝ }
 {
     if layout::mate(rack, a) as usize != b {
         edges::drop_edge(rack, a, b);
@@ -166,7 +166,7 @@ fn upper(a: usize, b: usize) -> usize
 fn accepted(rack: &mut [u8], code: u32, a: usize, b: usize, words: &[u32]) -> Tally
     requires { ⌜ Sounded low (now rack) ⌝ }
     requires { ⌜ Acceptable (read low (now rack)) code a b ⌝ }
-    ensures { λ r. ⌜ Tried (acceptedRun (read low (now (rack .entry))) (brought code a b (now (words .entry)))) (now (words .entry)) (now (rack .entry)) (now (rack .exit)) r ⌝ }
+    ensures { λ r. ⌜ Tried (acceptedRun (rulesAt (now (rack .entry))) (read low (now (rack .entry))) (brought code a b (now (words .entry)))) (now (words .entry)) (now (rack .entry)) (now (rack .exit)) r ⌝ }
 {
     let low = lower(a, b);
     let high = upper(a, b);
@@ -204,8 +204,8 @@ fn done(rack: &[u8], t: Tally) -> Answer
 // One change of a sound rack, without the audit: the first of 7 to 12 that fits, or what was done.
 pub fn change(rack: &mut [u8], code: u32, a: u32, b: u32, words: &[u32]) -> Answer
     requires { ⌜ Sounded low (now rack) ⌝ }
-    ensures answers { λ r. ⌜ Answers r (changeOf base (read low (now (rack .entry))) (brought code a b (now (words .entry))) .answer) ⌝ }
-    ensures leaves { λ _. ⌜ now (rack .exit) ≡ write (changeOf base (read low (now (rack .entry))) (brought code a b (now (words .entry))) .state) ⌝ }
+    ensures answers { λ r. ⌜ Answers r (changeOf (rulesAt (now (rack .entry))) (read low (now (rack .entry))) (brought code a b (now (words .entry))) .answer) ⌝ }
+    ensures leaves { λ _. ⌜ now (rack .exit) ≡ write (changeOf (rulesAt (now (rack .entry))) (read low (now (rack .entry))) (brought code a b (now (words .entry))) .state) ⌝ }
 {
     let k = number(rack, code, a, b);
     if k != 0 {

@@ -4,8 +4,7 @@ ghost use mathlib.Core.Logic.{_≢_};
 ghost use Prim.Native.Nat.{_<_};
 ghost use lib.ListN.{length};
 ghost use Rattle.model.specs.Shape.{low};
-ghost use Rattle.model.specs.State.{base};
-ghost use Rattle.model.specs.Bytes.{read};
+ghost use Rattle.model.specs.Bytes.{rulesAt, topAt, read};
 ghost use Rattle.model.specs.Moves.{promote as promoted, settle as settled};
 ghost use Rattle.model.specs.Change.{start, startParted};
 ghost use Rattle.moves.specs.Proper.{Held};
@@ -23,8 +22,8 @@ pub enum Work {
 // "The riser's pair, if any, is parted; it rises, it draws, the settling follows."
 pub fn promote_and_settle(rack: &mut [u8], u: usize, i: usize, words: &[u32]) -> Tally
     requires { ⌜ Begun low (now rack) ⌝ }
-    requires { ⌜ Liftable (read low (now rack)) i u ⌝ }
-    ensures { λ r. ⌜ Ended (settled base (now (words .entry)) (promoted (now (words .entry)) i u (start (read low (now (rack .entry)))))) (now (rack .exit)) r ⌝ }
+    requires { ⌜ Liftable (topAt (now rack)) (read low (now rack)) i u ⌝ }
+    ensures { λ r. ⌜ Ended (settled (rulesAt (now (rack .entry))) (now (words .entry)) (promoted (now (words .entry)) i u (start (read low (now (rack .entry)))))) (now (rack .exit)) r ⌝ }
 {
     let mut queue = layout::places();
     let t = settling::promote(rack, &mut queue, words, u, i, Tally::new());
@@ -35,7 +34,7 @@ pub fn promote_and_settle(rack: &mut [u8], u: usize, i: usize, words: &[u32]) ->
 pub fn part_and_settle(rack: &mut [u8], a: usize, b: usize, words: &[u32]) -> Tally
     requires { ⌜ Begun low (now rack) ⌝ }
     requires { ⌜ (a < read low (now rack) .n) × (b < read low (now rack) .n) × (a ≢ b) × (read low (now rack) .mate a ≡ b) ⌝ }
-    ensures { λ r. ⌜ Ended (settled base (now (words .entry)) (startParted a b (read low (now (rack .entry))))) (now (rack .exit)) r ⌝ }
+    ensures { λ r. ⌜ Ended (settled (rulesAt (now (rack .entry))) (now (words .entry)) (startParted a b (read low (now (rack .entry))))) (now (rack .exit)) r ⌝ }
 {
     let mut queue = layout::places();
     let first = settling::join(&mut queue, a, 0);
@@ -47,7 +46,7 @@ pub fn part_and_settle(rack: &mut [u8], a: usize, b: usize, words: &[u32]) -> Ta
 // All that is left to do, whether the words suffice or not.
 fn carry_out(rack: &mut [u8], work: Work, words: &[u32]) -> Tally
     requires { ⌜ Workable low (now rack) work ⌝ }
-    ensures { λ r. ⌜ Ended (workRun (now (words .entry)) work (read low (now (rack .entry)))) (now (rack .exit)) r ⌝ }
+    ensures { λ r. ⌜ Ended (workRun (rulesAt (now (rack .entry))) (now (words .entry)) work (read low (now (rack .entry)))) (now (rack .exit)) r ⌝ }
 {
     match work {
         Work::Rise { i, u } => promote_and_settle(rack, u, i, words),
@@ -70,7 +69,7 @@ fn copy(from: &[u8], to: &mut [u8])
 // back if more words were used than are lent.
 pub fn try_out(rack: &mut [u8], work: Work, words: &[u32]) -> Tally
     requires { ⌜ Workable low (now rack) work ⌝ }
-    ensures { λ r. ⌜ Tried (workRun (now (words .entry)) work (read low (now (rack .entry)))) (now (words .entry)) (now (rack .entry)) (now (rack .exit)) r ⌝ }
+    ensures { λ r. ⌜ Tried (workRun (rulesAt (now (rack .entry))) (now (words .entry)) work (read low (now (rack .entry)))) (now (words .entry)) (now (rack .entry)) (now (rack .exit)) r ⌝ }
 {
     let mut kept = [0u8; layout::shape::RACK_BYTES];
     copy(rack, &mut kept);

@@ -5,8 +5,7 @@ use mathlib.Core.Bool.{true, false, _&&_}
 use Prim.Native.Nat.{ℕ, _≤_, _<_}
 use native.Mathlib.Omega.{arith}
 use lib.Dec.{T, eqb, eqb→eq, not-T, T-not}
-use Rattle.model.specs.Shape.{Shape}
-use Rattle.model.specs.State.{State, edge}
+use Rattle.model.specs.State.{Kind, State, edge}
 use Rattle.model.specs.Change.{isEdge, withoutEdge, reown, owning, addEdge}
 use Rattle.model.proofs.Tests.{le?, holds?, bool-ext, T-true, T-false, true-T, eqb-yes, leb-yes, leb-no, and-intro, and-left, and-right, or-cases, or-left, or-right}
 use Rattle.theory.proofs.EdgeSets.{edge-is, is-edge}
@@ -43,12 +42,12 @@ module _ (o e : ℕ) (s : State) where
       (λ t. elim (owning-cases v w t) [ inl h ↦ h | inr h ↦ absurd (d (h .0) (h .1)) ]) (owning-old v w)
 
   module _ (apart : o ≢ e) (inside : (o < s .n) × (e < s .n)) (absent : T (edge s o e) → ⊥) where
-    owning-proper : {S : Shape} → Proper S s → Proper S (owning o e s)
+    owning-proper : {K : Kind} → Proper K s → Proper K (owning o e s)
     unfolding owning reown
     owning-proper p = record {
-      shape = p .shape;
+      kind = p .kind;
       good = p .good;
-      room = p .room;
+      range = p .range;
       few = p .few;
       inside = λ v w t. elim (owning-cases v w t) [
         | inl h ↦ p .inside v w h
@@ -130,9 +129,9 @@ module _ (a b : ℕ) (s : State) where
   add-mate v = add-either (λ (t : State). t .mate v ≡ s .mate v) a b s refl refl
 
   module _ (apart : a ≢ b) (inside : (a < s .n) × (b < s .n)) (absent : T (edge s a b) → ⊥) where
-    pub add-proper : {S : Shape} → Proper S s → Proper S (addEdge a b s)
-    add-proper {S} p =
-        add-either (Proper S) a b s (owning-proper a b s apart inside absent p)
+    pub add-proper : {K : Kind} → Proper K s → Proper K (addEdge a b s)
+    add-proper {K} p =
+        add-either (Proper K) a b s (owning-proper a b s apart inside absent p)
         (owning-proper b a s (λ e. apart (sym e)) (inside .1, inside .0) (λ h. absent (edge-turn s b a h)) p)
 
     pub add-joined : EdgeMore a b s (addEdge a b s)
@@ -160,12 +159,12 @@ module _ (a b : ℕ) (s : State) where
   unfolding reown withoutEdge
   drop-keep v w t d = and-intro (s .owns v w) _ t (not-T (isEdge a b v w) d)
 
-  pub drop-proper : {S : Shape} → Proper S s → Proper S (dropEdge a b s)
+  pub drop-proper : {K : Kind} → Proper K s → Proper K (dropEdge a b s)
   unfolding reown
   drop-proper p = record {
-    shape = p .shape;
+    kind = p .kind;
     good = p .good;
-    room = p .room;
+    range = p .range;
     few = p .few;
     inside = λ v w t. p .inside v w (drop-old v w t);
     past-rank = p .past-rank;

@@ -6,14 +6,13 @@ use Prim.Native.Nat.{ℕ, suc, _<_}
 use native.Mathlib.Omega.{arith}
 use lib.Dec.{T}
 use Rattle.model.specs.Shape.{Shape}
-use Rattle.model.specs.State.{base, State, edge}
+use Rattle.model.specs.State.{Kind, State, edge}
 use Rattle.model.specs.Bytes.{image, write}
 use Rattle.model.specs.Change.{reown}
-use Rattle.model.proofs.Shapes.{Full}
 use Rattle.layout.specs.Setters.{disown}
 use Rattle.moves.specs.Proper.{Proper}
 use Rattle.moves.specs.Counts.{step}
-use Rattle.moves.proofs.Held.{proper-few}
+use Rattle.moves.proofs.Held.{proper-shape, proper-few, proper-ranks}
 use Rattle.edges.specs.Steps.{Countable}
 use Rattle.edges.proofs.Joined.{EdgeMore, edges-more}
 use Rattle.edges.proofs.Changed.{dropEdge, drop-joined, drop-here, drop-back, drop-rest}
@@ -22,27 +21,26 @@ use Rattle.edges.proofs.Stages.{turned, disown-turned}
 use Rattle.edges.proofs.EdgeSteps.{EdgeStep, step-countable}
 
 -- the edge can be dropped
-pub record Droppable (S : Shape) (a b : ℕ) (s : State) : Type 0 where
-  pub proper : Proper S s
-  pub full : Full S
+pub record Droppable (K : Kind) (a b : ℕ) (s : State) : Type 0 where
+  pub proper : Proper K s
   pub apart : a ≢ b
   pub inside : (a < s .n) × (b < s .n)
   pub there : T (edge s a b)
 
-module _ {S : Shape} (a b : ℕ) (s : State) (D : Droppable S a b s) where
-  pub a-small : a < S .most
+module _ {K : Kind} (a b : ℕ) (s : State) (D : Droppable K a b s) where
+  pub a-small : a < K .shape .most
   a-small = omega (arith, D .inside .0, proper-few (D .proper))
 
-  pub b-small : b < S .most
+  pub b-small : b < K .shape .most
   b-small = omega (arith, D .inside .1, proper-few (D .proper))
 
   joined : EdgeMore a b (dropEdge a b s) s
   joined = drop-joined a b s (D .apart) (D .inside) (D .there)
 
   -- the owner's bit, and the other end's, which is clear
-  pub disown-both : disown S (disown S (write s) a b) b a ≡ image (turned s (dropEdge a b s))
+  pub disown-both : disown (K .shape) (disown (K .shape) (write s) a b) b a ≡ image (turned s (dropEdge a b s))
   disown-both =
-      subst (λ (T : Shape). a < T .most → b < T .most → disown T (disown T (write s) a b) b a ≡ image (turned s (dropEdge a b s))) (D .proper .shape)
+      subst (λ (T : Shape). a < T .most → b < T .most → disown T (disown T (write s) a b) b a ≡ image (turned s (dropEdge a b s))) (proper-shape (D .proper))
       (λ l k. disown-turned s (dropEdge a b s) (D .proper .good) a b l k (drop-rest a b s) (drop-here a b s) (drop-back a b s)) a-small b-small
 
   -- the counts and the number of edges
@@ -51,23 +49,22 @@ module _ {S : Shape} (a b : ℕ) (s : State) (D : Droppable S a b s) where
     unfolding reown
     more = gained a b j (dropEdge a b s) s joined (record { a-low = H .a-low; b-low = H .b-low; least = H .least })
 
-    pub drop-step : EdgeStep S a b j false s (dropEdge a b s)
+    pub drop-step : EdgeStep K a b j false s (dropEdge a b s)
     unfolding reown
     drop-step = record {
       proper = D .proper;
-      full = D .full;
       shifted = lost a b j s (dropEdge a b s) more;
       kind = refl;
       size = refl;
       rank = λ v. refl;
       mate = λ v. refl;
       number = omega (arith, edges-more a b (dropEdge a b s) s joined);
-      level = H .least (suc (base .top)) (D .proper .ranks a) (D .proper .ranks b);
+      level = H .least (suc (K .top)) (proper-ranks (D .proper) a) (proper-ranks (D .proper) b);
       a-in = a-small;
       b-in = b-small;
     }
 
-    pub drop-countable : Countable S false (image (turned s (dropEdge a b s))) a b j
+    pub drop-countable : Countable (K .shape) false (image (turned s (dropEdge a b s))) a b j
     drop-countable =
         step-countable a b j false s (dropEdge a b s) drop-step (record {
           of-a = λ x l. omega (arith, more .on-a x l);

@@ -5,7 +5,7 @@ use mathlib.Core.Bool.{true, false}
 use Prim.Native.Nat.{ℕ, suc, _+_, _≤_, _<_}
 use native.Mathlib.Omega.{arith}
 use mathlib.Core.List.{List}
-use lib.Dec.{ltb}
+use lib.Dec.{leb}
 use Rattle.model.specs.Counting.{upd}
 use Rattle.model.specs.Shape.{Shape}
 use Rattle.model.specs.State.{State, phi}
@@ -74,17 +74,17 @@ lost a b j s t g = record {
   rest = λ v x d e. sym (g .rest v x d e);
 }
 
--- the counts of t at the levels that the bytes hold, and those of s above
+-- the counts of t at the levels that the rack has, and those of s above, where nothing is stepped
 unfoldable pub both : State → State → ℕ → ℕ → ℕ
-both s t v x = elim (ltb x (s .kind .shape .levels)) [ true ↦ phi t v x | false ↦ phi s v x ]
+both s t v x = elim (leb x (s .kind .top)) [ true ↦ phi t v x | false ↦ phi s v x ]
 
-pub both-held : (s t : State) (v x : ℕ) → x < s .kind .shape .levels → both s t v x ≡ phi t v x
+pub both-held : (s t : State) (v x : ℕ) → x ≤ s .kind .top → both s t v x ≡ phi t v x
 unfolding both
-both-held s t v x l = rw (leb-yes (suc x) (s .kind .shape .levels) l, both) refl
+both-held s t v x l = rw (leb-yes x (s .kind .top) l, both) refl
 
-both-past : (s t : State) (v x : ℕ) → s .kind .shape .levels ≤ x → both s t v x ≡ phi s v x
+both-past : (s t : State) (v x : ℕ) → s .kind .top < x → both s t v x ≡ phi s v x
 unfolding both
-both-past s t v x l = rw (leb-no (suc x) (s .kind .shape .levels) (omega arith), both) refl
+both-past s t v x l = rw (leb-no x (s .kind .top) l, both) refl
 
 -- the counts when those of a have changed
 unfoldable pub half : ℕ → State → State → ℕ → ℕ → ℕ
@@ -99,16 +99,16 @@ pub half-there : (a : ℕ) (s t : State) (v x : ℕ) → v ≢ a → half a s t 
 unfolding half
 half-there a s t v x d = ap (λ (r : ℕ → ℕ). r x) (upd-other (phi s) a (both s t a) v d)
 
-module _ (a b j k : ℕ) (δ : ℕ → ℕ) (s t : State) (G : Shifted a b j δ s t) (all : j + k ≡ s .kind .shape .levels) where
+module _ (a b j k : ℕ) (δ : ℕ → ℕ) (s t : State) (G : Shifted a b j δ s t) (all : j + k ≡ suc (s .kind .top)) where
   pub half-on : (x : ℕ) → j ≤ x → x < j + k → half a s t a x ≡ δ (phi s a x)
   half-on x l h = half-here a s t a x refl ∙ both-held s t a x (omega arith) ∙ G .on-a x l
 
   pub half-off : (v x : ℕ) → (v ≡ a → j ≤ x → x < j + k → ⊥) → half a s t v x ≡ phi s v x
   half-off v x d = elim (eq? v a) [
     | inr e ↦ half-there a s t v x e
-    | inl e ↦ half-here a s t v x e ∙ elim (le? (s .kind .shape .levels) x) [
+    | inl e ↦ half-here a s t v x e ∙ elim (le? (suc (s .kind .top)) x) [
       | inl l ↦ both-past s t v x l
-      | inr l ↦ both-held s t v x l ∙ elim (le? j x) [
+      | inr l ↦ both-held s t v x (omega arith) ∙ elim (le? j x) [
         | inl h ↦ absurd (d e h (omega arith))
         | inr h ↦ ap (λ (y : ℕ). phi t y x) e ∙ G .low-a x h ∙ ap (λ (y : ℕ). phi s y x) (sym e)
       ]
@@ -122,9 +122,9 @@ module _ (a b j k : ℕ) (δ : ℕ → ℕ) (s t : State) (G : Shifted a b j δ 
   pub both-off : (v x : ℕ) → (v ≡ b → j ≤ x → x < j + k → ⊥) → both s t v x ≡ half a s t v x
   both-off v x d = elim (eq? v a) [
     | inl e ↦ sym (half-here a s t v x e)
-    | inr e ↦ elim (le? (s .kind .shape .levels) x) [
+    | inr e ↦ elim (le? (suc (s .kind .top)) x) [
       | inl l ↦ both-past s t v x l
-      | inr l ↦ both-held s t v x l ∙ elim (eq? v b) [
+      | inr l ↦ both-held s t v x (omega arith) ∙ elim (eq? v b) [
         | inr f ↦ G .rest v x e f
         | inl f ↦ elim (le? j x) [
           | inl h ↦ absurd (d f h (omega arith))

@@ -3,8 +3,7 @@ use mathlib.Core.Bool.{Bool}
 use mathlib.Core.List.{List}
 use Prim.Native.Nat.{ℕ, suc, _-_, _≤_, _<_}
 use Rattle.model.specs.Shape.{Shape}
-use Rattle.model.specs.State.{base}
-use Rattle.model.specs.Bytes.{edgesAt, phiAt}
+use Rattle.model.specs.Bytes.{edgesAt, topAt, phiAt}
 use Rattle.model.specs.Moves.{Found, none, found}
 use Rattle.layout.specs.Setters.{setEdges}
 use Rattle.moves.specs.Counts.{step, CanStep, largestCount, largestEdges, recounted}
@@ -12,12 +11,12 @@ use Rattle.edges.specs.declared.Reached.{Reached}
 use Rattle.edges.specs.declared.Reached.the-variants.{At, Never}
 
 -- the counts of w from level j up to the top, one more or one less
-abbrev pub recountedFrom : Shape → Bool → List ℕ → ℕ → ℕ → List ℕ
-recountedFrom S more bs w j = recounted S (step more) bs w j (suc (base .top) - j)
+abbrev pub recountedFrom : Shape → Bool → ℕ → List ℕ → ℕ → ℕ → List ℕ
+recountedFrom S more top bs w j = recounted S (step more) bs w j (suc top - j)
 
--- the edge a-b more or less, from level j on: the counts of both ends, and the number of edges
+-- the edge a-b more or less, from level j up to the rack's top level: the counts of both ends, and the number of edges
 abbrev pub endsCounted : Shape → Bool → List ℕ → ℕ → ℕ → ℕ → List ℕ
-endsCounted S more bs a b j = recountedFrom S more (recountedFrom S more bs a j) b j
+endsCounted S more bs a b j = recountedFrom S more (topAt bs) (recountedFrom S more (topAt bs) bs a j) b j
 
 unfoldable pub edgeCounted : Shape → Bool → List ℕ → ℕ → ℕ → ℕ → List ℕ
 edgeCounted S more bs a b j = setEdges S (endsCounted S more bs a b j) (step more (edgesAt S (endsCounted S more bs a b j)))
@@ -26,9 +25,10 @@ edgeCounted S more bs a b j = setEdges S (endsCounted S more bs a b j) (step mor
 pub record Countable (S : Shape) (more : Bool) (bs : List ℕ) (a b j : ℕ) : Type 0 where
   pub a-in : a < S .most
   pub b-in : b < S .most
-  pub level : j ≤ suc (base .top)
-  pub of-a : (x : ℕ) → j ≤ x → x ≤ base .top → CanStep more (largestCount S) (phiAt S bs a x)
-  pub of-b : (x : ℕ) → j ≤ x → x ≤ base .top → CanStep more (largestCount S) (phiAt S (recountedFrom S more bs a j) b x)
+  pub room : topAt bs < S .levels
+  pub level : j ≤ suc (topAt bs)
+  pub of-a : (x : ℕ) → j ≤ x → x ≤ topAt bs → CanStep more (largestCount S) (phiAt S bs a x)
+  pub of-b : (x : ℕ) → j ≤ x → x ≤ topAt bs → CanStep more (largestCount S) (phiAt S (recountedFrom S more (topAt bs) bs a j) b x)
   pub of-edges : CanStep more (largestEdges S) (edgesAt S (endsCounted S more bs a b j))
 
 -- the level reached and the riser, as the definition names them

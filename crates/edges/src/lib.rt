@@ -4,8 +4,8 @@ ghost use mathlib.Core.Bool.{true, false};
 ghost use mathlib.Core.Logic.{_≢_};
 ghost use Prim.Native.Nat.{suc, _<_, _≤_, ℕ};
 ghost use Rattle.model.specs.Shape.{low};
-ghost use Rattle.model.specs.State.{base, edge};
-ghost use Rattle.model.specs.Bytes.{read, write};
+ghost use Rattle.model.specs.State.{edge};
+ghost use Rattle.model.specs.Bytes.{topAt, rulesAt, read, write};
 ghost use Rattle.model.specs.Change.{addEdge as edgeAdded, reown, withoutEdge, riser as riserOf};
 ghost use Rattle.layout.specs.Setters.{Sized};
 ghost use Rattle.moves.specs.Proper.{Held};
@@ -33,7 +33,7 @@ fn count_edge(rack: &mut [u8], a: usize, b: usize, j: usize, more: bool)
     requires { ⌜ Countable low more (now rack) a b j ⌝ }
     ensures { λ _. ⌜ now (rack .exit) ≡ edgeCounted low more (now (rack .entry)) a b j ⌝ }
 {
-    let k = layout::top() + 1 - j;
+    let k = layout::settings::top(rack) as usize + 1 - j;
     moves::step_counts(rack, a, j, k, more);
     moves::step_counts(rack, b, j, k, more);
     let m = layout::edges(rack);
@@ -70,23 +70,24 @@ pub fn drop_edge(rack: &mut [u8], a: usize, b: usize)
 }
 
 // "The search for a rise stops at the first level, from 3 downwards to one above both ends, that either end's count reaches. [..] If both
-// reach it, the lower number rises.": a is the lower number.
+// reach it, the lower number rises.": a is the lower number. The counts above the top are 0, and reach no threshold.
 pub fn riser(rack: &[u8], a: usize, b: usize) -> Reached
     requires { ⌜ Held low (now rack) ⌝ }
     requires { ⌜ (a < read low (now rack) .n) × (b < read low (now rack) .n) ⌝ }
-    ensures { λ r. ⌜ reachedBy r ≡ riserOf base a b (suc (base .top)) (read low (now (rack .entry))) ⌝ }
+    ensures { λ r. ⌜ reachedBy r ≡ riserOf (rulesAt (now (rack .entry))) a b (suc (topAt (now (rack .entry)))) (read low (now (rack .entry))) ⌝ }
 {
     let low = higher(layout::rank(rack, a), layout::rank(rack, b));
-    let mut j = layout::top() + 1;
+    let bars = layout::settings::thresholds(rack);
+    let mut j = layout::shape::LEVELS;
     loop {
         if j <= low {
             break Reached::Never;
         }
         j -= 1;
-        if layout::threshold(j) <= layout::phi(rack, a, j) {
+        if bars[j] <= layout::phi(rack, a, j) as u16 {
             break Reached::At { i: j, u: a };
         }
-        if layout::threshold(j) <= layout::phi(rack, b, j) {
+        if bars[j] <= layout::phi(rack, b, j) as u16 {
             break Reached::At { i: j, u: b };
         }
     }

@@ -2,16 +2,15 @@
 -- call meets the contract. Assumes nothing.
 use mathlib.Core.Path.{_≡_, sym, subst}
 use mathlib.Core.List.{List, [], _∷_}
-use Prim.Native.Nat.{ℕ, _<_}
+use Prim.Native.Nat.{ℕ}
 use lib.Dec.{T}
 use Rattle.model.specs.Shape.{Shape, GoodShape, low}
-use Rattle.model.specs.State.{base}
 use Rattle.model.specs.Sound.{sound}
 use Rattle.model.specs.Valid.{IsBytes}
 use Rattle.model.specs.Calls.{sized, changeBytes}
 use Rattle.model.specs.Ledger.{Ledger, ledgerOf, entered, enteredAll}
 use Rattle.theory.specs.Demand.{lastRack, toldOf, toldAll, Call, Calls, Demand}
-use Rattle.model.proofs.Shapes.{low-good, low-room}
+use Rattle.model.proofs.Shapes.{low-good}
 use Rattle.theory.specs.Rosters.{Rosters}
 use Rattle.theory.proofs.ListTheorem.{demand-three}
 use Rattle.theory.proofs.Rosters.{rosters-of}
@@ -19,7 +18,7 @@ use Rattle.engine.specs.Answers.{ChangeIs}
 use Rattle.engine.specs.Series.{CallMade, Series, asked, tellings, left, gave, Right, SeriesDemand}
 
 -- a call that meets the contract gave what the definition gives
-gave-is : (S : Shape) (bs : List ℕ) (d : CallMade) → ChangeIs S bs (d .change) (d .answer) (d .after) → changeBytes base S bs (d .change) ≡ gave S bs d
+gave-is : (S : Shape) (bs : List ℕ) (d : CallMade) → ChangeIs S bs (d .change) (d .answer) (d .after) → changeBytes S bs (d .change) ≡ gave S bs d
 unfolding gave
 gave-is S bs d h = λ i. record {
   answer = record {
@@ -29,7 +28,7 @@ gave-is S bs d h = λ i. record {
     pairs = sym (h .answers .pairs) i;
   };
   rack = sym (h .leaves) i;
-  news = changeBytes base S bs (d .change) .news;
+  news = changeBytes S bs (d .change) .news;
 }
 
 -- a series that meets the contract call by call is one of the definition's
@@ -37,7 +36,7 @@ kept : (S : Shape) (l : Ledger) (bs : List ℕ) (ds : List CallMade) → Series 
 unfolding Series asked tellings left Right Calls lastRack toldAll enteredAll
 kept S l bs [] h p = record { calls = tt; last = p .last }
 kept S l bs (d ∷ ds) h p =
-    let e : changeBytes base S bs (d .change) .rack ≡ d .after = sym (h .0 .leaves) in
+    let e : changeBytes S bs (d .change) .rack ≡ d .after = sym (h .0 .leaves) in
     let then : Ledger = entered l (toldOf S bs (d .change)) in
     let next : Demand S then (d .after) (asked ds) =
     subst (λ (x : List ℕ). Demand S then x (asked ds)) e (record { calls = p .calls .1; last = p .last }) in
@@ -48,16 +47,16 @@ kept S l bs (d ∷ ds) h p =
     }
 
 -- From any sound rack of any good shape, whatever the codes, the vertices and the words of the calls.
-pub demand-three-of-series : (S : Shape) → GoodShape S → base .top < S .levels → (bs : List ℕ) → IsBytes bs → T (sized S bs) → T (sound base S bs)
+pub demand-three-of-series : (S : Shape) → GoodShape S → (bs : List ℕ) → IsBytes bs → T (sized S bs) → T (sound S bs)
     → (ds : List CallMade) → Series S bs ds → SeriesDemand S (ledgerOf S bs) bs ds
-demand-three-of-series S good room bs by sz so ds h = kept S (ledgerOf S bs) bs ds h (demand-three S good room bs by sz so (asked ds))
+demand-three-of-series S good bs by sz so ds h = kept S (ledgerOf S bs) bs ds h (demand-three S good bs by sz so (asked ds))
 
 -- Of the calls of `engine::change`, whose contract is that of document 01's rack.
-pub demand-three-of-change : (bs : List ℕ) → IsBytes bs → T (sized low bs) → T (sound base low bs)
+pub demand-three-of-change : (bs : List ℕ) → IsBytes bs → T (sized low bs) → T (sound low bs)
     → (ds : List CallMade) → Series low bs ds → SeriesDemand low (ledgerOf low bs) bs ds
-demand-three-of-change = demand-three-of-series low low-good low-room
+demand-three-of-change = demand-three-of-series low low-good
 
 -- W-205: and so the rosters are the levels, whatever calls were made.
-pub rosters-of-change : (bs : List ℕ) → IsBytes bs → T (sized low bs) → T (sound base low bs)
+pub rosters-of-change : (bs : List ℕ) → IsBytes bs → T (sized low bs) → T (sound low bs)
     → (ds : List CallMade) → Series low bs ds → Rosters low (enteredAll (ledgerOf low bs) (tellings low bs ds)) (left bs ds)
-rosters-of-change bs by sz so ds h = rosters-of low-room (demand-three-of-change bs by sz so ds h .last)
+rosters-of-change bs by sz so ds h = rosters-of (demand-three-of-change bs by sz so ds h .last)

@@ -3,7 +3,6 @@ use mathlib.Core.Path.{_≡_}
 use mathlib.Core.List.{List}
 use Prim.Native.Nat.{ℕ}
 use Rattle.model.specs.Shape.{Shape}
-use Rattle.model.specs.State.{base}
 use Rattle.model.specs.Change.{Change}
 use Rattle.model.specs.Calls.{changeBytes, AuditAnswer as AuditOf, LevelAnswer as LevelOf, QueryAnswer as QueryOf}
 use Rattle.changes.specs.declared.Answer.{Answer}
@@ -14,8 +13,8 @@ use Rattle.engine.specs.declared.QueryAnswer.{QueryAnswer}
 
 -- what a change with c on the bytes bs answers, and the bytes that it leaves
 pub record ChangeIs (S : Shape) (bs : List ℕ) (c : Change) (r : Answer) (after : List ℕ) : Type 0 where
-  pub answers : Answers r (changeBytes base S bs c .answer)
-  pub leaves : after ≡ changeBytes base S bs c .rack
+  pub answers : Answers r (changeBytes S bs c .answer)
+  pub leaves : after ≡ changeBytes S bs c .rack
 
 -- what the audit answers, and then a query of the level, and one of the mate or of two linked boards
 pub record AuditIs (r : AuditAnswer) (x : AuditOf) : Type 0 where

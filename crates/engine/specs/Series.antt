@@ -3,7 +3,6 @@
 use mathlib.Core.List.{List, [], _∷_}
 use Prim.Native.Nat.{ℕ}
 use Rattle.model.specs.Shape.{Shape}
-use Rattle.model.specs.State.{base}
 use Rattle.model.specs.Change.{Change}
 use Rattle.model.specs.Calls.{ChangedBytes, changeBytes}
 use Rattle.model.specs.Ledger.{Ledger, Told, entered, enteredAll}
@@ -42,7 +41,7 @@ unfoldable pub gave : Shape → List ℕ → CallMade → ChangedBytes
 gave S bs d = record {
   answer = record { number = d .answer .number; draws = d .answer .draws; falls = d .answer .falls; pairs = d .answer .pairs };
   rack = d .after;
-  news = changeBytes base S bs (d .change) .news;
+  news = changeBytes S bs (d .change) .news;
 }
 
 -- each call gave what demand 3 says of a call, by the ledger as it then stands

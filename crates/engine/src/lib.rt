@@ -5,7 +5,7 @@ ghost use Prim.Native.Nat.{ℕ, suc, _≤_};
 ghost use lib.Dec.{eqb};
 ghost use lib.IntN.{pos, predℤ};
 ghost use Rattle.model.specs.Shape.{low};
-ghost use Rattle.model.specs.State.{base, lowKind};
+ghost use Rattle.model.specs.State.{lowWith, lowKind};
 ghost use Rattle.model.specs.Calls.{rackNumber, makeNumber, made, audit as auditOf, oneNumber, twoNumber, levelQuery, mateQuery, linkedQuery, atLevel, rosterQuery};
 ghost use Rattle.changes.specs.Sounded.{brought};
 ghost use Rattle.engine.specs.Answers.{ChangeIs, AuditIs, LevelIs, QueryIs};
@@ -31,7 +31,7 @@ pub struct QueryAnswer {
 
 // 1 or 6, or 0 if neither fits.
 fn rack_number(rack: &[u8]) -> u32
-    ensures { λ r. ⌜ r ≡ rackNumber base low (now (rack .entry)) ⌝ }
+    ensures { λ r. ⌜ r ≡ rackNumber low (now (rack .entry)) ⌝ }
 {
     if !layout::sized(rack) {
         return 1;
@@ -42,10 +42,10 @@ fn rack_number(rack: &[u8]) -> u32
     6
 }
 
-// Making: the rack of n boards with no link.
-pub fn make(rack: &mut [u8], n: u32) -> u32
-    ensures number { λ r. ⌜ r ≡ makeNumber low (now (rack .entry)) n ⌝ }
-    ensures leaves { λ _. ⌜ now (rack .exit) ≡ made lowKind (now (rack .entry)) n ⌝ }
+// Making with settings: the rack of n boards with no link.
+pub fn make_with(rack: &mut [u8], n: u32, growth: u32, top: u32) -> u32
+    ensures number { λ r. ⌜ r ≡ makeNumber (lowWith growth top) (now (rack .entry)) n ⌝ }
+    ensures leaves { λ _. ⌜ now (rack .exit) ≡ made (lowWith growth top) (now (rack .entry)) n ⌝ }
 {
     if !layout::sized(rack) {
         return 1;
@@ -56,8 +56,24 @@ pub fn make(rack: &mut [u8], n: u32) -> u32
     if layout::shape::MOST < n as usize {
         return 5;
     }
-    layout::clear(rack, n as u16);
+    if !layout::settings::in_range(growth, top) {
+        return 13;
+    }
+    layout::clear(rack, n as u16, growth as u8, top as u8);
     0
+}
+
+// The short form of making: "The short form of making gives 4 and 3".
+pub fn make(rack: &mut [u8], n: u32) -> u32
+    ensures number { λ r. ⌜ r ≡ makeNumber lowKind (now (rack .entry)) n ⌝ }
+    ensures leaves { λ _. ⌜ now (rack .exit) ≡ made lowKind (now (rack .entry)) n ⌝ }
+{
+    make_with(
+        rack,
+        n,
+        layout::settings::SHORT_GROWTH,
+        layout::settings::SHORT_TOP,
+    )
 }
 
 // A change: add (code 1) or drop (code 2) the link a-b, with words lent for its draws.
@@ -78,7 +94,7 @@ pub fn change(rack: &mut [u8], code: u32, a: u32, b: u32, words: &[u32]) -> Answ
 
 // The audit.
 pub fn audit(rack: &[u8]) -> AuditAnswer
-    ensures { λ r. ⌜ AuditIs r (auditOf base low (now (rack .entry))) ⌝ }
+    ensures { λ r. ⌜ AuditIs r (auditOf low (now (rack .entry))) ⌝ }
 {
     if !layout::sized(rack) {
         return AuditAnswer {
@@ -94,7 +110,7 @@ pub fn audit(rack: &[u8]) -> AuditAnswer
 
 // 1, 6 or 8 for a query that names one board.
 fn one_number(rack: &[u8], v: u32) -> u32
-    ensures { λ r. ⌜ r ≡ oneNumber base low (now (rack .entry)) v ⌝ }
+    ensures { λ r. ⌜ r ≡ oneNumber low (now (rack .entry)) v ⌝ }
 {
     let k = rack_number(rack);
     if k != 0 {
@@ -108,7 +124,7 @@ fn one_number(rack: &[u8], v: u32) -> u32
 
 // 1, 6, 8 or 9 for a query that names two boards.
 fn two_number(rack: &[u8], v: u32, w: u32) -> u32
-    ensures { λ r. ⌜ r ≡ twoNumber base low (now (rack .entry)) v w ⌝ }
+    ensures { λ r. ⌜ r ≡ twoNumber low (now (rack .entry)) v w ⌝ }
 {
     let k = one_number(rack, v);
     if k != 0 {
@@ -135,7 +151,7 @@ fn level_of(rank: u8) -> i32
 
 // The level of a board.
 pub fn level(rack: &[u8], v: u32) -> LevelAnswer
-    ensures { λ r. ⌜ LevelIs r (levelQuery base low (now (rack .entry)) v) ⌝ }
+    ensures { λ r. ⌜ LevelIs r (levelQuery low (now (rack .entry)) v) ⌝ }
 {
     let k = one_number(rack, v);
     if k != 0 {
@@ -150,7 +166,7 @@ pub fn level(rack: &[u8], v: u32) -> LevelAnswer
 
 // The mate of a board, 65,535 if it is idle.
 pub fn mate(rack: &[u8], v: u32) -> QueryAnswer
-    ensures { λ r. ⌜ QueryIs r (mateQuery base low (now (rack .entry)) v) ⌝ }
+    ensures { λ r. ⌜ QueryIs r (mateQuery low (now (rack .entry)) v) ⌝ }
 {
     let k = one_number(rack, v);
     if k != 0 {
@@ -167,20 +183,20 @@ pub fn mate(rack: &[u8], v: u32) -> QueryAnswer
 
 // The rank of a level: one more. A level below -1 has none, and gets one that no board has.
 fn rank_of(level: i32) -> usize
-    ensures { λ r. ⌜ ((x : ℕ) → x ≤ suc (base .top) → atLevel level x ≡ eqb x r) ⌝ }
+    ensures { λ r. ⌜ ((x : ℕ) → x ≤ low .levels → atLevel level x ≡ eqb x r) ⌝ }
 {
     if level < 0 {
         if level == -1 {
             return 0;
         }
-        return layout::top() + 2;
+        return layout::shape::LEVELS + 1;
     }
     level as usize + 1
 }
 
 // The number of boards at a level, 0 for a level that is none.
 pub fn roster(rack: &[u8], level: i32) -> QueryAnswer
-    ensures { λ r. ⌜ QueryIs r (rosterQuery base low (now (rack .entry)) level) ⌝ }
+    ensures { λ r. ⌜ QueryIs r (rosterQuery low (now (rack .entry)) level) ⌝ }
 {
     let k = rack_number(rack);
     if k != 0 {
@@ -190,7 +206,7 @@ pub fn roster(rack: &[u8], level: i32) -> QueryAnswer
         };
     }
     let r = rank_of(level);
-    if layout::top() + 1 < r {
+    if layout::shape::LEVELS < r {
         return QueryAnswer {
             number: 0,
             value: 0,
@@ -204,7 +220,7 @@ pub fn roster(rack: &[u8], level: i32) -> QueryAnswer
 
 // Whether two boards are linked: 1 or 0.
 pub fn linked(rack: &[u8], v: u32, w: u32) -> QueryAnswer
-    ensures { λ r. ⌜ QueryIs r (linkedQuery base low (now (rack .entry)) v w) ⌝ }
+    ensures { λ r. ⌜ QueryIs r (linkedQuery low (now (rack .entry)) v w) ⌝ }
 {
     let k = two_number(rack, v, w);
     if k != 0 {

@@ -14,14 +14,14 @@ use Rattle.model.specs.Counting.{sum, eachOnto, each}
 use Rattle.model.specs.Shape.{Shape, GoodShape, matesFrom, phisFrom, rostersFrom, rackLength}
 use Rattle.model.specs.State.{Kind, edge, near, below, phi, edges, empty}
 use Rattle.model.specs.Parts.{num, rowByte, byRows, Part, bytesOf}
-use Rattle.model.specs.Bytes.{Fields, roster, parts, image, mateEntry, fieldsOf, write}
+use Rattle.model.specs.Bytes.{Fields, roster, parts, image, mateEntry, phiEntry, fieldsOf, write}
 use Rattle.model.proofs.Tests.{eq?, le?, bool?, T-true, T-false, bool-ext, true-T, eqb-yes, and-intro, and-left, and-right, and-yes}
 use Rattle.model.proofs.Counting.{count-none, sum-eq, sum-zero}
-use Rattle.model.proofs.Limits.{mateEntry-free}
+use Rattle.model.proofs.Limits.{mateEntry-free, phiEntry-le}
 use Rattle.model.proofs.Parts.{total, span, bytes-length, next}
 use Rattle.bitset.specs.Words.{Rest, stored}
-use Rattle.layout.specs.Setters.{setNum, put, blanked, enrolled}
-use Rattle.layout.proofs.Pieces.{each-next, set-part, rowByte-ext}
+use Rattle.layout.specs.Setters.{setNum, put, blanked, unset, enrolled}
+use Rattle.layout.proofs.Pieces.{each-next, put-ext, set-part, rowByte-ext}
 use Rattle.layout.proofs.Bits.{withRowWord, word-in, word-out, rows-same, store-word}
 use Rattle.layout.proofs.Images.{rosters-table}
 
@@ -82,6 +82,9 @@ module _ (K : Kind) (n : ℕ) where
     | inr t ↦ rw (T-false {b = leb 0 j} (T-not (leb 0 j) t), phi) refl
   ]
 
+  no-entry : (v j : ℕ) → phiEntry (empty K n) v j ≡ 0
+  no-entry v j = omega (arith, phiEntry-le (empty K n) v j, no-phi v j)
+
   no-edges : edges (empty K n) ≡ 0
   unfolding edges edge empty
   no-edges = sum-eq _ (λ v. 0) n (λ v l. count-none _ n (λ w k h. and-right (ltb v w) false h)) ∙ sum-zero n
@@ -94,13 +97,13 @@ no-row : (k : ℕ) → rowByte (λ w. false) k ≡ 0
 unfolding rowByte sum
 no-row k = refl
 
-module _ (K : Kind) (good : GoodShape (K .shape)) (n : ℕ) where
-  abbrev S : Shape
-  S = K .shape
+module _ (S : Shape) (good : GoodShape S) (n : ℕ) where
+  abbrev bare : Kind
+  bare = unset S
 
   -- its parts, with nobody in a roster yet, and n not yet told
   abbrev nobody : ℕ → ℕ
-  nobody = byRows (S .row) (λ r. rowByte (λ v. ltb v 0 && roster (fieldsOf (empty K n)) r v))
+  nobody = byRows (S .row) (λ r. rowByte (λ v. ltb v 0 && roster (fieldsOf (empty bare n)) r v))
 
   none-in : (i : ℕ) → nobody i ≡ 0
   none-in i =
@@ -109,38 +112,40 @@ module _ (K : Kind) (good : GoodShape (K .shape)) (n : ℕ) where
       ∙ no-row (i % S .row)
 
   abbrev all : List Part
-  all = unfold fieldsOf empty in put 0 (λ i. 0) (put 8 nobody (parts (fieldsOf (empty K n))))
+  all = unfold fieldsOf empty in put 0 (λ i. 0) (put 10 nobody (parts (fieldsOf (empty bare n))))
 
   blank-bytes : bytesOf all ≡ blanked S
   unfolding fieldsOf empty blanked bytesOf
   blank-bytes =
       let rest : ℕ = rackLength S - phisFrom S in
-      even 0 (matesFrom S) (take 5 all) (drop 5 all) _
+      even 0 (matesFrom S) (take 7 all) (drop 7 all) _
       (next (λ i l. num-zero 2 0 refl)
-      (next (λ i l. num-zero 2 _ (omega (arith, no-edges K n)))
+      (next (λ i l. num-zero 2 _ (omega (arith, no-edges bare n)))
       (next (λ i l. num-zero 1 0 refl)
-      (next (λ i l. num-zero (2 - S .spare) _ (omega (arith, no-edges K n)))
-      (next (λ v l. num-zero 1 0 refl) tt))))) (omega (arith, good .spare))
-      (even 255 (2 * S .most) (take 1 (drop 5 all)) (drop 6 all) _ (next (λ v l. no-mate K n v) tt) (omega arith)
-      (even 0 rest (drop 6 all) [] []
-      (next (λ i l. num-zero (S .width) _ (no-phi K n _ _))
+      (next (λ i l. num-zero 1 0 refl)
+      (next (λ i l. num-zero 1 0 refl)
+      (next (λ i l. num-zero (2 - S .spare) _ (omega (arith, no-edges bare n)))
+      (next (λ v l. num-zero 1 0 refl) tt))))))) (omega (arith, good .spare))
+      (even 255 (2 * S .most) (take 1 (drop 7 all)) (drop 8 all) _ (next (λ v l. no-mate bare n v) tt) (omega arith)
+      (even 0 rest (drop 8 all) [] []
+      (next (λ i l. num-zero (S .width) _ (no-entry bare n _ _))
       (next (λ i l. num-zero 1 _ (no-row _))
       (next (λ i l. num-zero 1 _ (none-in i)) tt))) (omega arith) refl
       ∙ append-nil (replicate rest 0)))
 
-  pub founded : set (set (blanked S) 0 (n % 256)) 1 (n / 256) ≡ enrolled K n 0
+  pub founded : set (set (blanked S) 0 (n % 256)) 1 (n / 256) ≡ enrolled S n 0
   unfolding enrolled setNum fieldsOf empty
   founded =
       ap (λ (l : List ℕ). setNum 2 l 0 n) (sym blank-bytes)
       ∙ set-part 0 all (λ i. n) 0 0 n (omega arith) (omega arith) refl (λ u l d. absurd (omega arith))
 
-  pub enrolled-length : (m : ℕ) → length (enrolled K n m) ≡ rackLength S
+  pub enrolled-length : (m : ℕ) → length (enrolled S n m) ≡ rackLength S
   unfolding enrolled
-  enrolled-length m = bytes-length (put 8 _ (parts (fieldsOf (empty K n)))) ∙ unfold fieldsOf empty in omega (arith, good .spare)
+  enrolled-length m = bytes-length (put 10 _ (parts (fieldsOf (empty bare n)))) ∙ unfold fieldsOf empty in omega (arith, good .spare)
 
   -- who is in the rosters once the vertices below m have entered
   abbrev entry : ℕ → ℕ → ℕ → Bool
-  entry m r v = ltb v m && roster (fieldsOf (empty K n)) r v
+  entry m r v = ltb v m && roster (fieldsOf (empty bare n)) r v
 
   -- none is in that of another rank
   other-rank : (m r v : ℕ) → r ≢ 0 → entry m r v ≡ false
@@ -179,15 +184,29 @@ module _ (K : Kind) (good : GoodShape (K .shape)) (n : ℕ) where
 
   -- word by word the vertices enter their roster, in which none but them are
   pub enrolled-word : (k x : ℕ) → 64 * k < S .most → Rest (λ j. ltb (64 * k + j) n) 0 x
-      → stored (enrolled K n (64 * k)) (rostersFrom S + S .row * 0 + 8 * k) x ≡ enrolled K n (64 * (k + 1))
+      → stored (enrolled S n (64 * k)) (rostersFrom S + S .row * 0 + 8 * k) x ≡ enrolled S n (64 * (k + 1))
   unfolding enrolled fieldsOf empty
   enrolled-word k x h r =
-      let table = rosters-table (fieldsOf (empty K n)) good in
+      let table = rosters-table (fieldsOf (empty bare n)) good in
       store-word good table (entry (64 * k)) 0 k x (λ v. ltb v n) (omega arith) h (λ j l. r .same j (omega arith) l)
       ∙ rows-same good table (withRowWord (entry (64 * k)) 0 k (λ v. ltb v n)) (entry (64 * (k + 1))) (λ r v l b. entry-word k r v)
 
-  pub enrolled-all : (m : ℕ) → S .most ≤ m → enrolled K n m ≡ write (empty K n)
+  pub enrolled-all : (m : ℕ) → S .most ≤ m → enrolled S n m ≡ write (empty bare n)
   unfolding enrolled write image fieldsOf empty
   enrolled-all m h =
-      let f : Fields = fieldsOf (empty K n) in
+      let f : Fields = fieldsOf (empty bare n) in
       rows-same good (rosters-table f good) (entry m) (roster f) (λ r v l b. and-yes (ltb v m) (roster f r v) (lt→ltb v m (omega arith)))
+
+-- ---- the settings, written last
+
+pub settled : (K : Kind) (n : ℕ) → set (set (write (empty (unset (K .shape)) n)) 4 (K .growth)) 5 (K .top) ≡ write (empty K n)
+unfolding write image fieldsOf empty edges edge mateEntry roster setNum
+settled K n =
+    let S : Shape = K .shape in
+    let ps : List Part = parts (fieldsOf (empty (unset S) n)) in
+    let grown : List Part = put 2 (λ i. K .growth) ps in
+    ap (λ (l : List ℕ). set l 5 (K .top))
+    (set-part 2 ps (λ i. K .growth) 0 4 (K .growth) (omega arith) (omega arith) refl (λ u l d. absurd (omega arith)))
+    ∙ set-part 3 grown (λ i. K .top) 0 5 (K .top) (omega arith) (omega arith) refl (λ u l d. absurd (omega arith))
+    ∙ put-ext 8 (put 3 (λ i. K .top) grown) (byRows (S .levels) (phiEntry (empty (unset S) n))) (byRows (S .levels) (phiEntry (empty K n)))
+    (λ u l. no-entry (unset S) n (u / S .levels) (u % S .levels) ∙ sym (no-entry K n (u / S .levels) (u % S .levels)))

@@ -12,9 +12,10 @@ use Rattle.model.specs.Counting.{upd}
 use Rattle.model.specs.Shape.{Shape, GoodShape, ranksFrom, matesFrom, phisFrom, rowsFrom, rostersFrom}
 use Rattle.model.specs.State.{Kind}
 use Rattle.model.specs.Parts.{numAt, bitOf, rowByte, byRows, bytesOf}
-use Rattle.model.specs.Bytes.{half, Fields, roster, parts, image}
+use Rattle.model.specs.Bytes.{half, Fields, roster, parts, image, upToTop}
 use Rattle.model.proofs.Tests.{eq?, eqb-yes, eqb-no, and-yes}
 use Rattle.model.proofs.Lists.{upd-same, upd-other}
+use Rattle.model.proofs.Limits.{upTo-low, upTo-same}
 use Rattle.model.proofs.Parts.{rows-at, rows-inside, rows-ext, bytes-number, Same, bytes-ext}
 use Rattle.model.proofs.Fields.{rank-image}
 use Rattle.bitset.specs.Row.{inserted, removed}
@@ -49,16 +50,18 @@ image-ext f g good a =
     (same-next (λ i l. a .n)
     (same-next (λ i l. ap (λ (x : ℕ). x % half) (a .edges))
     (same-next (λ i l. refl)
+    (same-next (λ i l. refl)
+    (same-next (λ i l. refl)
     (same-next (λ i l. ap (λ (x : ℕ). x / half) (a .edges))
     (same-next (a .rank)
     (same-next (a .mate)
-    (same-next (λ i l. rows-ext (f .phi) (g .phi) (S .most) (S .levels) i l (λ v j b c e. a .phi v j b c))
+    (same-next (λ i l. rows-ext _ _ (S .most) (S .levels) i l (λ v j b c e. upTo-same (f .kind .top) (f .phi) (g .phi) v j (a .phi v j b c)))
     (same-next (λ i l. rows-ext _ _ (S .most) (S .row) i l (λ v k b c e.
     rowByte-ext (f .owns v) (g .owns v) k (λ j d. a .owns v (8 * k + j) b (omega (arith, good .rows)))))
     (same-next (λ i l. rows-ext _ _ (suc (S .levels)) (S .row) i l (λ r k b c e.
     rowByte-ext (roster f r) (roster g r) k (λ j d.
     ap₂ (λ (n x : ℕ). ltb (8 * k + j) n && eqb x r) (a .n) (a .rank (8 * k + j) (omega (arith, good .rows))))))
-    tt)))))))))
+    tt)))))))))))
     ∙ ap (λ (K : Kind). image (of K)) (a .kind)
 
 -- ---- fields with one value changed
@@ -106,38 +109,40 @@ module _ (f : Fields) (good : GoodShape (f .kind .shape)) where
       let lower : ℕ → ℕ = λ i. x % half in
       ap (λ (l : List ℕ). setNum (2 - S .spare) l (6 + S .spare) (x / half))
       (set-part 1 (parts f) lower 0 2 (x % half) (omega arith) (omega arith) refl (λ u l d. absurd (omega arith)))
-      ∙ set-part 3 (put 1 lower (parts f)) (λ i. x / half) 0 (6 + S .spare) (x / half) (omega arith) (omega arith) refl (λ u l d. absurd (omega arith))
+      ∙ set-part 5 (put 1 lower (parts f)) (λ i. x / half) 0 (6 + S .spare) (x / half) (omega arith) (omega arith) refl (λ u l d. absurd (omega arith))
 
   pub setMate-image : (v x : ℕ) → v < S .most → setMate S (image f) v x ≡ image (withMate f v x)
   unfolding setMate image withMate roster
   setMate-image v x l =
-      set-part 5 (parts f) (upd (f .mate) v x) v (matesFrom S + 2 * v) x l (omega (arith, good .spare)) (sym (upd-same (f .mate) v x v refl))
+      set-part 7 (parts f) (upd (f .mate) v x) v (matesFrom S + 2 * v) x l (omega (arith, good .spare)) (sym (upd-same (f .mate) v x v refl))
       (λ u b d. sym (upd-other (f .mate) v x u d))
 
-  pub setPhi-image : (v j x : ℕ) → v < S .most → j < S .levels → setPhi S (image f) v j x ≡ image (withPhi f v j x)
+  pub setPhi-image : (v j x : ℕ) → v < S .most → j < S .levels → j ≤ f .kind .top → setPhi S (image f) v j x ≡ image (withPhi f v j x)
   unfolding setPhi image withPhi roster
-  setPhi-image v j x l h =
+  setPhi-image v j x l h k =
+      let t : ℕ = f .kind .top in
       let new : ℕ → ℕ → ℕ = entered (f .phi) v j x in
       let i : ℕ = S .levels * v + j in
-      set-part 6 (parts f) (byRows (S .levels) new) i (phisFrom S + S .width * i) x (rows-inside (S .most) (S .levels) v j l h)
-      (omega (arith, good .spare)) (sym (rows-at new (S .levels) v j h ∙ entry-same (f .phi) v j x))
-      (rows-other (f .phi) new (S .most) (S .levels) v j (λ p q d. sym (entry-other (f .phi) v j x p q d)))
+      set-part 8 (parts f) (byRows (S .levels) (upToTop t new)) i (phisFrom S + S .width * i) x (rows-inside (S .most) (S .levels) v j l h)
+      (omega (arith, good .spare)) (sym (rows-at (upToTop t new) (S .levels) v j h ∙ upTo-low t new v j k ∙ entry-same (f .phi) v j x))
+      (rows-other (upToTop t (f .phi)) (upToTop t new) (S .most) (S .levels) v j
+      (λ p q d. upTo-same t (f .phi) new p q (sym (entry-other (f .phi) v j x p q d))))
 
   -- the rows of the vertices, and the rosters
-  rows-table : Table S (rowsFrom S) (S .most) (λ g. bytesOf (put 7 g (parts f)))
+  rows-table : Table S (rowsFrom S) (S .most) (λ g. bytesOf (put 9 g (parts f)))
   unfolding setNum numAt
   rows-table = record {
-    holds = λ g i l. bytes-number 7 (put 7 g (parts f)) i (rowsFrom S + i) l (omega arith) (omega (arith, good .spare));
-    sets = λ old new i x l e other. set-part 7 (put 7 old (parts f)) new i (rowsFrom S + i) x l (omega (arith, good .spare)) e other;
-    ext = put-ext 7 (parts f);
+    holds = λ g i l. bytes-number 9 (put 9 g (parts f)) i (rowsFrom S + i) l (omega arith) (omega (arith, good .spare));
+    sets = λ old new i x l e other. set-part 9 (put 9 old (parts f)) new i (rowsFrom S + i) x l (omega (arith, good .spare)) e other;
+    ext = put-ext 9 (parts f);
   }
 
-  pub rosters-table : Table S (rostersFrom S) (suc (S .levels)) (λ g. bytesOf (put 8 g (parts f)))
+  pub rosters-table : Table S (rostersFrom S) (suc (S .levels)) (λ g. bytesOf (put 10 g (parts f)))
   unfolding setNum numAt
   rosters-table = record {
-    holds = λ g i l. bytes-number 8 (put 8 g (parts f)) i (rostersFrom S + i) l (omega arith) (omega (arith, good .spare));
-    sets = λ old new i x l e other. set-part 8 (put 8 old (parts f)) new i (rostersFrom S + i) x l (omega (arith, good .spare)) e other;
-    ext = put-ext 8 (parts f);
+    holds = λ g i l. bytes-number 10 (put 10 g (parts f)) i (rostersFrom S + i) l (omega arith) (omega (arith, good .spare));
+    sets = λ old new i x l e other. set-part 10 (put 10 old (parts f)) new i (rostersFrom S + i) x l (omega (arith, good .spare)) e other;
+    ext = put-ext 10 (parts f);
   }
 
   pub own-image : (v w : ℕ) → v < S .most → w < S .most → own S (image f) v w ≡ image (withOwns f v w true)
@@ -192,7 +197,7 @@ module _ (f : Fields) (good : GoodShape (f .kind .shape)) where
       ∙ ap (λ (l : List ℕ). set (inserted l (placeIn S (rostersFrom S) x v)) (ranksFrom + v) x)
       (remove-place good rosters-table (roster f) (f .rank v) v (omega arith) h)
       ∙ ap (λ (l : List ℕ). set l (ranksFrom + v) x) (insert-place good rosters-table less x v (omega arith) h)
-      ∙ set-part 4 (put 8 (numbersOf (moved v x)) (parts f)) (upd (f .rank) v x) v (ranksFrom + v) x h (omega (arith, good .spare))
+      ∙ set-part 6 (put 10 (numbersOf (moved v x)) (parts f)) (upd (f .rank) v x) v (ranksFrom + v) x h (omega (arith, good .spare))
       (sym (upd-same (f .rank) v x v refl)) (λ u b d. sym (upd-other (f .rank) v x u d))
-      ∙ put-ext 8 (parts now) (numbersOf (moved v x)) (numbersOf (roster now)) (λ u b. rows-ext _ _ (suc (S .levels)) (S .row) u b (λ r k c d e.
+      ∙ put-ext 10 (parts now) (numbersOf (moved v x)) (numbersOf (roster now)) (λ u b. rows-ext _ _ (suc (S .levels)) (S .row) u b (λ r k c d e.
       rowByte-ext (moved v x r) (roster now r) k (λ j g. moved-roster v x r (8 * k + j) l)))

@@ -10,3 +10,4 @@ pub mod Said
 pub mod Spans
 pub mod Walks
 pub mod Reached
+pub mod Powers

@@ -11,8 +11,8 @@ use lib.Dec.{T}
 use lib.ListN.{length, getD, take, drop, length-take, length-drop}
 use lib.Seq.{getD-take, getD-drop}
 use Rattle.model.specs.Counting.{sum, count}
-use Rattle.model.specs.Shape.{Shape, GoodShape, ranksFrom, matesFrom, phisFrom, rowsFrom, rostersFrom}
-use Rattle.model.specs.Bytes.{noMate, rankAt, mateAt, phiAt, inRow, ownsAt}
+use Rattle.model.specs.Shape.{Shape, GoodShape, ranksFrom, matesFrom, phisFrom, rowsFrom, rostersFrom, rackLength}
+use Rattle.model.specs.Bytes.{noMate, rankAt, mateAt, phiAt, inRow, ownsAt, rosterAt}
 use Rattle.model.specs.Parts.{numAt, num, bitOf}
 use Rattle.model.specs.Valid.{IsBytes}
 use Rattle.model.proofs.Tests.{eq?}
@@ -119,18 +119,30 @@ module _ {S : Shape} (good : GoodShape S) (bs : List ℕ) (sized : Sized S bs) (
       (good .wide) (alike-zero (S .width)) (mul-le-mul-left (S .levels) up) e
       (ap (λ (x : ℕ). phisFrom S + S .width * x) (mul-comm (S .most) (S .levels))) (omega arith) s)
 
-  pub span-rows : IsBytes bs → Says b (AllFrom bs (rowsFrom S + S .row * n) (rostersFrom S) 0)
+-- rows n to m of the rows of bits that stand from byte `from` on are empty exactly if their bytes are zero
+span-bits : {S : Shape} → GoodShape S → (bs : List ℕ) → IsBytes bs → (from n m a e : ℕ) {b : Bool} → n ≤ m → a ≡ from + S .row * n → e ≡ from + S .row * m
+    → e ≤ length bs → Says b (AllFrom bs a e 0) → Says b ((v : ℕ) → v < m → n ≤ v → (w : ℕ) → w < S .most → T (inRow S bs from v w) → ⊥)
+span-bits {S} good bs bytes from n m a e up begins ends l s =
+    let byte : ℕ → ℕ → ℕ = λ v k. getD bs (from + (S .row * v + k)) 0 in
+    says-by (λ f v h g w t. zero-bits (byte v (w / 8)) (f v h g (w / 8) (omega (arith, good .rows))) (w % 8))
+    (λ f v h g k t. bits-zero (byte v k) (bytes (from + (S .row * v + k))) (λ j i o.
+    let at : k ≡ (8 * k + j) / 8 = omega arith in
+    let bit : j ≡ (8 * k + j) % 8 = omega arith in
+    f v h g (8 * k + j) (omega (arith, good .rows)) (subst T (ap₂ (λ (x y : ℕ). bitOf (byte v x) y) at bit) o)))
+    (table-says {P = λ i. getD bs (from + i) 0 ≡ 0} (S .row) n m (good .some)
+    (cut-says bs from (S .row * n) (S .row * m) a e 0 (mul-le-mul-left (S .row) up) begins ends l s))
+
+module _ {S : Shape} (good : GoodShape S) (bs : List ℕ) (sized : Sized S bs) (bytes : IsBytes bs) (n : ℕ) {b : Bool} where
+  pub span-rows : n ≤ S .most → Says b (AllFrom bs (rowsFrom S + S .row * n) (rostersFrom S) 0)
       → Says b ((v : ℕ) → v < S .most → n ≤ v → (w : ℕ) → w < S .most → T (ownsAt S bs v w) → ⊥)
   unfolding ownsAt
-  span-rows bytes s =
-      says-by (λ f v h l w t. zero-bits (getD bs (rowsFrom S + (S .row * v + w / 8)) 0) (f v h l (w / 8) (omega (arith, good .rows))) (w % 8))
-      (λ f v h l k t. bits-zero (getD bs (rowsFrom S + (S .row * v + k)) 0) (bytes (rowsFrom S + (S .row * v + k))) (λ j g o.
-      let byte : k ≡ (8 * k + j) / 8 = omega arith in
-      let bit : j ≡ (8 * k + j) % 8 = omega arith in
-      f v h l (8 * k + j) (omega (arith, good .rows)) (subst T (ap₂ (λ (x y : ℕ). bitOf (getD bs (rowsFrom S + (S .row * v + x)) 0) y) byte bit) o)))
-      (table-says {P = λ i. getD bs (rowsFrom S + i) 0 ≡ 0} (S .row) n (S .most) (good .some)
-      (cut-says bs (rowsFrom S) (S .row * n) (S .row * S .most) (rowsFrom S + S .row * n) (rostersFrom S) 0 (mul-le-mul-left (S .row) up) refl
-      (omega (arith, mul-comm (S .most) (S .row))) (omega arith) s))
+  span-rows up = span-bits good bs bytes (rowsFrom S) n (S .most) _ _ up refl (omega (arith, mul-comm (S .most) (S .row))) (omega arith)
+
+  pub span-rosters : n ≤ suc (S .levels) → Says b (AllFrom bs (rostersFrom S + S .row * n) (rackLength S) 0)
+      → Says b ((r : ℕ) → r < suc (S .levels) → n ≤ r → (v : ℕ) → v < S .most → T (rosterAt S bs r v) → ⊥)
+  unfolding rosterAt
+  span-rosters up =
+      span-bits good bs bytes (rostersFrom S) n (suc (S .levels)) _ _ up refl (omega (arith, mul-comm (suc (S .levels)) (S .row))) (omega arith)
 
 -- ---- words and rows
 

@@ -66,10 +66,15 @@ put k g [] = []
 put zero g (p ∷ ps) = numbers (p .many) (p .width) g ∷ ps
 put (suc k) g (p ∷ ps) = p ∷ put k g ps
 
--- the rack of n vertices with no edge, of whom those below m are in their roster so far
-unfoldable pub enrolled : Kind → ℕ → ℕ → List ℕ
-enrolled K n m =
-    bytesOf (put 8 (byRows (K .shape .row) (λ r. rowByte (λ v. ltb v m && roster (fieldsOf (empty K n)) r v))) (parts (fieldsOf (empty K n))))
+-- the kind of a rack whose settings are yet to be written
+abbrev pub unset : Shape → Kind
+unset S = record { shape = S; growth = 0; top = 0 }
+
+-- that rack of n vertices with no edge, of whom those below m are in their roster so far
+unfoldable pub enrolled : Shape → ℕ → ℕ → List ℕ
+enrolled S n m =
+    let f = fieldsOf (empty (unset S) n) in
+    bytesOf (put 10 (byRows (S .row) (λ r. rowByte (λ v. ltb v m && roster f r v))) (parts f))
 
 -- every byte zero, but for the mates' entries, which name none
 unfoldable pub blanked : Shape → List ℕ

@@ -5,7 +5,7 @@ ghost use mathlib.Core.Bool.{_||_};
 ghost use Prim.Native.Nat.{_<_, _≤_, _+_, _*_};
 ghost use lib.ListN.{length, replicate};
 ghost use Rattle.model.specs.Shape.{low, rackLength};
-ghost use Rattle.model.specs.State.{base, lowKind, empty};
+ghost use Rattle.model.specs.State.{lowWith, empty};
 ghost use Rattle.model.specs.Counting.{sum, count};
 ghost use Rattle.bitset.specs.Row.{member};
 ghost use Rattle.model.specs.Bytes.{sizeAt, edgesAt, rankAt, mateAt, phiAt, ownsAt, write};
@@ -14,6 +14,7 @@ ghost use Rattle.layout.specs.Setters.{Sized, setEdges, setRank, setMate
 ghost use Rattle.layout.specs.Rows.{degreeAt, NthOwned};
 
 pub mod rosters;
+pub mod settings;
 pub mod shape;
 pub mod unused;
 pub mod walk;
@@ -21,24 +22,6 @@ pub mod words;
 
 // The entry for the mate of a free vertex.
 pub const NO_MATE: u16 = 65535;
-
-// "The thresholds for levels 0, 1, 2, 3 are 1, 4, 16 and 64, that is 4^j."
-const THRESHOLDS: [u8; shape::LEVELS] = [1, 4, 16, 64];
-
-// The threshold of level j.
-pub fn threshold(j: usize) -> u8
-    requires { ⌜ j ≤ base .top ⌝ }
-    ensures { λ r. ⌜ r ≡ base .thr j ⌝ }
-{
-    THRESHOLDS[j]
-}
-
-// The highest level.
-pub fn top() -> usize
-    ensures { λ r. ⌜ r ≡ base .top ⌝ }
-{
-    3
-}
 
 // Two bytes as a number, low byte first. Taken as parameters the bytes have their range, so nothing is left to prove.
 fn two_bytes(lo: u8, hi: u8) -> u16
@@ -253,23 +236,24 @@ fn blank(rack: &mut [u8])
     fill(&mut rack[shape::MATES..shape::PHIS], 255);
 }
 
-// The rack of n vertices with no edge, but for its rosters, which are empty.
+// The rack of n vertices with no edge, but for its rosters, which are empty, and its settings.
 fn found(rack: &mut [u8], n: u16)
     requires { ⌜ Sized low (now rack) ⌝ }
     requires { ⌜ n ≤ low .most ⌝ }
-    ensures { λ _. ⌜ now (rack .exit) ≡ enrolled lowKind n 0 ⌝ }
+    ensures { λ _. ⌜ now (rack .exit) ≡ enrolled low n 0 ⌝ }
 {
     blank(rack);
     rack[shape::SIZE] = (n % 256) as u8;
     rack[shape::SIZE + 1] = (n / 256) as u8;
 }
 
-// The rack of n vertices with no edge.
-pub fn clear(rack: &mut [u8], n: u16)
+// The rack of n vertices with no edge and with these settings.
+pub fn clear(rack: &mut [u8], n: u16, growth: u8, top: u8)
     requires { ⌜ Sized low (now rack) ⌝ }
     requires { ⌜ n ≤ low .most ⌝ }
-    ensures { λ _. ⌜ now (rack .exit) ≡ write (empty lowKind n) ⌝ }
+    ensures { λ _. ⌜ now (rack .exit) ≡ write (empty (lowWith growth top) n) ⌝ }
 {
     found(rack, n);
     rosters::enroll(rack, n as usize);
+    settings::put(rack, growth, top);
 }

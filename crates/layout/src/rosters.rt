@@ -3,10 +3,10 @@ ghost use mathlib.Core.Path.{_≡_};
 ghost use Prim.Native.Nat.{_+_, _<_, _≤_, _*_};
 ghost use Rattle.model.specs.Shape.{low};
 ghost use Rattle.model.specs.Counting.{count};
-ghost use Rattle.model.specs.State.{lowKind, empty};
+ghost use Rattle.model.specs.State.{empty};
 ghost use Rattle.model.specs.Bytes.{rosterAt, write};
 ghost use Rattle.bitset.specs.Words.{Rest};
-ghost use Rattle.layout.specs.Setters.{Sized, enrolled};
+ghost use Rattle.layout.specs.Setters.{Sized, unset, enrolled};
 use crate::shape;
 
 // 64 places of the roster of rank r, from 64 k on, as one word.
@@ -31,8 +31,8 @@ pub fn size(rack: &[u8], r: usize) -> usize
 // The n vertices of a rack with no edge enter the roster of rank 0.
 pub fn enroll(rack: &mut [u8], n: usize)
     requires { ⌜ n ≤ low .most ⌝ }
-    requires { ⌜ now rack ≡ enrolled lowKind n 0 ⌝ }
-    ensures { λ _. ⌜ now (rack .exit) ≡ write (empty lowKind n) ⌝ }
+    requires { ⌜ now rack ≡ enrolled low n 0 ⌝ }
+    ensures { λ _. ⌜ now (rack .exit) ≡ write (empty (unset low) n) ⌝ }
 {
     let at = shape::roster_at(0);
     let mut k = 0;

@@ -10,12 +10,16 @@ pub const LEVELS: usize = 4;
 
 pub const ROW: usize = 32;
 
-// Where the parts begin: n, the number of edges, the spare bytes, the ranks, the mates, the counts, the rows, the rosters.
+// Where the parts begin: n, the number of edges, the settings, the spare bytes, the ranks, the mates, the counts, the rows, the rosters.
 pub const SIZE: usize = 0;
 
 pub const EDGES: usize = 2;
 
-pub const SPARE: usize = 4;
+pub const GROWTH: usize = 4;
+
+pub const TOP: usize = 5;
+
+pub const SPARE: usize = 6;
 
 pub const RANKS: usize = 8;
 

@@ -1,18 +1,18 @@
 // What is left of a rack beside the entries of its vertices: spare bytes and the entries from vertex n on.
 ghost use mathlib.Core.Path.{_≡_};
-ghost use Prim.Native.Nat.{ℕ, _<_, _≤_, _+_};
+ghost use Prim.Native.Nat.{ℕ, suc, _<_, _≤_, _+_};
 ghost use lib.Dec.{T};
 ghost use lib.ListN.{getD};
 ghost use Rattle.model.specs.Shape.{low};
-ghost use Rattle.model.specs.Bytes.{noMate, rankAt, mateAt, phiAt, ownsAt};
+ghost use Rattle.model.specs.Bytes.{noMate, rankAt, mateAt, phiAt, ownsAt, rosterAt};
 ghost use Rattle.model.proofs.Facts.{Says, Unused};
 ghost use Rattle.layout.specs.Setters.{Sized};
 use crate::shape;
 
-// Whether bytes 4 to 7 are zero.
+// "6 and 7 stay zero": whether they are.
 pub fn spare_zero(rack: &[u8]) -> bool
     requires { ⌜ Sized low (now rack) ⌝ }
-    ensures { λ r. ⌜ Says r ((k : ℕ) → k < 2 + low .spare → getD (now (rack .entry)) (4 + k) 0 ≡ 0) ⌝ }
+    ensures { λ r. ⌜ Says r ((k : ℕ) → k < low .spare → getD (now (rack .entry)) (6 + k) 0 ≡ 0) ⌝ }
 {
     bitset::is_zero(&rack[shape::SPARE..shape::RANKS])
 }
@@ -55,6 +55,16 @@ fn rows_unused(rack: &[u8], n: usize) -> bool
 {
     let from = shape::ROWS + shape::ROW * n;
     bitset::is_zero(&rack[from..shape::ROSTERS])
+}
+
+// Whether the rosters from rank r on are empty.
+pub fn rosters_unused(rack: &[u8], r: usize) -> bool
+    requires { ⌜ Sized low (now rack) ⌝ }
+    requires { ⌜ r ≤ suc (low .levels) ⌝ }
+    ensures { λ a. ⌜ Says a ((q : ℕ) → q < suc (low .levels) → r ≤ q → (v : ℕ) → v < low .most → T (rosterAt low (now (rack .entry)) q v) → ⊥) ⌝ }
+{
+    let from = shape::ROSTERS + shape::ROW * r;
+    bitset::is_zero(&rack[from..shape::RACK_BYTES])
 }
 
 // Whether the entries from vertex n on are those of vertices that are none.

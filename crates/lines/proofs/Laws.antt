@@ -10,12 +10,12 @@ use Rattle.model.specs.Lists.{All}
 use Rattle.model.specs.Text.{bytes, decimal, texts}
 use Rattle.model.specs.Moves.{Ends}
 use Rattle.model.specs.Change.{Change}
-use Rattle.model.specs.Trace.{rackLine, codeText, wordText, changeLine, LineChange}
+use Rattle.model.specs.Trace.{Settings, short, long, growthOf, topOf, settingsText, SettingsFit, rackLine, codeText, wordText, changeLine, LineChange}
 use Rattle.model.proofs.Tests.{eq?, eqb-no}
 use Rattle.text.specs.Number.{isDigit, NoDigit, NumberThen}
 use Rattle.text.proofs.Decimals.{same-number, same-rest}
 use Rattle.lines.proofs.Pieces.{Between, Printed, Then, Sole, Form, between-sole, then-sole, form-sole}
-use Rattle.lines.specs.Pieces.{IsCode, endsText, FitEnds, wordsText, Fit, FitWords}
+use Rattle.lines.specs.Pieces.{firstLine, FitFirst, rackEnd, longEnd, FitLong, IsCode, endsText, FitEnds, wordsText, Fit, FitWords}
 
 -- a space and a closing bracket are no digits: what they begin goes on no number
 space-no-digit : isDigit 32 ≡ false
@@ -28,19 +28,88 @@ close-no-digit = refl
 
 -- Line 1.
 
-pub rack-form : Form rackLine Fit (Between (bytes "(rack (boards ") (bytes "))\n")) (λ n. n)
-unfolding rackLine
-rack-form = record {
-  split = λ n {t} {u} fit e. record {
-    rest = decimal n ++ (bytes "))\n" ++ u);
-    before = e ∙ simp append-assoc;
-    number = record { written = refl; ends = close-no-digit; small = fit };
+-- the end of the long line: two numbers
+pub long-form : Form longEnd FitLong (Then (Between (bytes ") (growth ") (bytes ") (top ")) (Between [] (bytes "))\n"))) (λ x. x)
+unfolding longEnd
+long-form = record {
+  split = λ x {t} {u} fit e. record {
+    rest = decimal (x .1) ++ (bytes "))\n" ++ u);
+    first = record {
+      rest = decimal (x .0) ++ (bytes ") (top " ++ (decimal (x .1) ++ (bytes "))\n" ++ u)));
+      before = e ∙ simp append-assoc;
+      number = record { written = refl; ends = close-no-digit; small = fit .0 };
+    };
+    second = record { rest = _; before = refl; number = record { written = refl; ends = close-no-digit; small = fit .1 } };
   };
-  joined = λ n {t} {u} k. let e : t ≡ bytes "(rack (boards " ++ (decimal n ++ (bytes "))\n" ++ u)) = cc in (k .number .small, e ∙ simp append-assoc);
+  joined = λ x {t} {u} k.
+      let e : t ≡ bytes ") (growth " ++ (decimal (x .0) ++ (bytes ") (top " ++ (decimal (x .1) ++ (bytes "))\n" ++ u)))) = cc in
+      ((k .first .number .small, k .second .number .small), e ∙ simp append-assoc);
 }
 
-pub rack-sole : Sole (Printed rackLine Fit)
-rack-sole = form-sole rack-form (λ n. n) (λ _. refl) between-sole
+long-sole : Sole (Printed longEnd FitLong)
+long-sole = form-sole long-form (λ y. y) (λ _. refl) (then-sole between-sole between-sole)
+
+-- the end of each form of line 1
+pub end-short : (u : List ℕ) → rackEnd short ++ u ≡ bytes "))\n" ++ u
+unfolding rackEnd settingsText
+end-short u = refl
+
+pub end-long : (growth top : ℕ) (u : List ℕ) → rackEnd (long growth top) ++ u ≡ longEnd (growth, top) ++ u
+unfolding rackEnd settingsText longEnd
+end-long growth top u = simp append-assoc
+
+-- where neither stands, no end does
+pub end-none : {t : List ℕ} → ((u : List ℕ) → t ≡ bytes "))\n" ++ u → ⊥) → ((x : ℕ × ℕ) (u : List ℕ) → FitLong x → t ≡ longEnd x ++ u → ⊥)
+    → (x : Settings) (u : List ℕ) → SettingsFit x → t ≡ rackEnd x ++ u → ⊥
+unfolding growthOf topOf
+end-none f g short u fit e = f u (e ∙ end-short u)
+end-none f g (long growth top) u fit e = g (growth, top) u fit (e ∙ end-long growth top u)
+
+-- the second byte tells the forms apart
+short-long : (growth top : ℕ) (r u : List ℕ) → rackEnd short ++ r ≡ rackEnd (long growth top) ++ u → ⊥
+unfolding rackEnd settingsText
+short-long growth top r u e = let z : _≡_ {A = ℕ} 41 32 = cc in omega arith
+
+end-same : (x y : Settings) (r u : List ℕ) → SettingsFit x → SettingsFit y → rackEnd x ++ r ≡ rackEnd y ++ u → (x ≡ y) × (r ≡ u)
+unfolding growthOf topOf
+end-same short short r u f g e = (refl, append-cancel-left (rackEnd short) r u e)
+end-same short (long growth top) r u f g e = absurd (short-long growth top r u e)
+end-same (long growth top) short r u f g e = absurd (short-long growth top u r (sym e))
+end-same (long growth top) (long growth′ top′) r u f g e =
+    let (p, q) = long-sole .same (record { good = f; stands = end-long growth top r })
+    (record { good = g; stands = e ∙ end-long growth′ top′ u }) in
+    ((λ i. long (p i .0) (p i .1)), q)
+
+end-sole : Sole (Printed rackEnd SettingsFit)
+end-sole = record { same = λ {t} {x} {y} {u} {v} h k. end-same x y u v (h .good) (k .good) (sym (h .stands) ∙ k .stands) }
+
+-- N, and the end
+rack-pieces : (n : ℕ) (x : Settings) (u : List ℕ) → rackLine n x ++ u ≡ bytes "(rack (boards " ++ (decimal n ++ (rackEnd x ++ u))
+unfolding rackLine rackEnd
+rack-pieces n x u = simp append-assoc
+
+end-no-digit : (x : Settings) (u : List ℕ) → NoDigit (rackEnd x ++ u)
+unfolding rackEnd
+end-no-digit x u = close-no-digit
+
+pub rack-form : Form firstLine FitFirst (Then (Between (bytes "(rack (boards ") []) (Printed rackEnd SettingsFit)) (λ x. x)
+rack-form = record {
+  split = λ x {t} {u} fit e. record {
+    rest = rackEnd (x .1) ++ u;
+    first = record {
+      rest = decimal (x .0) ++ (rackEnd (x .1) ++ u);
+      before = e ∙ rack-pieces (x .0) (x .1) u;
+      number = record { written = refl; ends = end-no-digit (x .1) u; small = fit .0 };
+    };
+    second = record { good = fit .1; stands = refl };
+  };
+  joined = λ x {t} {u} k.
+      let e : t ≡ bytes "(rack (boards " ++ (decimal (x .0) ++ (rackEnd (x .1) ++ u)) = cc in
+      ((k .first .number .small, k .second .good), e ∙ sym (rack-pieces (x .0) (x .1) u));
+}
+
+pub rack-sole : Sole (Printed firstLine FitFirst)
+rack-sole = form-sole rack-form (λ y. y) (λ _. refl) (then-sole between-sole end-sole)
 
 -- The two vertices.
 

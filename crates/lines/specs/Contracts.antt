@@ -5,13 +5,17 @@ use Prim.Native.Nat.{ℕ, _+_, _≤_}
 use lib.ListN.{getD, take}
 use Rattle.model.specs.Text.{bytes}
 use Rattle.model.specs.Change.{Change}
-use Rattle.model.specs.Trace.{rackLine, codeText, changeLine, LineChange}
+use Rattle.model.specs.Trace.{Settings as SettingsOf, short, long, SettingsFit, codeText, changeLine, LineChange}
 use Rattle.text.specs.Number.{NumberAt}
 use Rattle.text.specs.Literal.{LiteralAt}
 use Rattle.text.specs.Reading.{Found, Absent}
 use Rattle.text.specs.declared.Number.the-variants.{Value, NoNumber}
 use Rattle.text.specs.declared.Literal.the-variants.{Next, NoLiteral}
-use Rattle.lines.specs.Pieces.{IsCode, endsText, FitEnds, wordsText, Fit, FitWords}
+use Rattle.lines.specs.Pieces.{firstLine, FitFirst, rackEnd, longEnd, FitLong, IsCode, endsText, FitEnds, wordsText, FitWords}
+use Rattle.lines.specs.declared.Settings.{Settings}
+use Rattle.lines.specs.declared.Settings.the-variants.{Short, Long}
+use Rattle.lines.specs.declared.LongRead.{LongRead}
+use Rattle.lines.specs.declared.LongRead.the-variants.{Named, NotNamed}
 use Rattle.lines.specs.declared.RackRead.{RackRead}
 use Rattle.lines.specs.declared.RackRead.the-variants.{Rack, NoRack}
 use Rattle.lines.specs.declared.CodeRead.{CodeRead}
@@ -25,11 +29,25 @@ use Rattle.lines.specs.declared.WordsRead.the-variants.{Words, NoWords}
 use Rattle.lines.specs.declared.ChangeRead.{ChangeRead}
 use Rattle.lines.specs.declared.ChangeRead.the-variants.{Line, NoLine}
 
--- line 1; a change's code, its vertices and its words; and its line as a whole: each is found there, or absent
-abbrev pub RackAt : List ℕ → ℕ → RackRead → Type 0
-RackAt s at (Rack n next) = Found rackLine Fit s at n next
-RackAt s at NoRack = Absent rackLine Fit s at
+-- the settings that the code's name
+abbrev pub namedBy : Settings → SettingsOf
+namedBy Short = short
+namedBy (Long growth top) = long growth top
 
+-- the end of a long line 1, of any line 1 after its N, and line 1 as a whole: each is found there, or absent
+abbrev pub LongAt : List ℕ → ℕ → LongRead → Type 0
+LongAt s at (Named growth top next) = Found longEnd FitLong s at (growth, top) next
+LongAt s at NotNamed = Absent longEnd FitLong s at
+
+abbrev pub RackEndAt : List ℕ → ℕ → ℕ → RackRead → Type 0
+RackEndAt s at n (Rack m settings next) = (m ≡ n) × Found rackEnd SettingsFit s at (namedBy settings) next
+RackEndAt s at n NoRack = Absent rackEnd SettingsFit s at
+
+abbrev pub RackAt : List ℕ → ℕ → RackRead → Type 0
+RackAt s at (Rack n settings next) = Found firstLine FitFirst s at (n, namedBy settings) next
+RackAt s at NoRack = Absent firstLine FitFirst s at
+
+-- a change's code, its vertices and its words, and its line as a whole
 abbrev pub CodeAt : List ℕ → ℕ → CodeRead → Type 0
 CodeAt s at (Code code next) = Found codeText IsCode s at code next
 CodeAt s at NoCode = Absent codeText IsCode s at

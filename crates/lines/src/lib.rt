@@ -4,11 +4,27 @@ use text::Literal;
 use text::Number;
 ghost use Prim.Native.Nat.{_+_, _≤_};
 ghost use lib.ListN.{length};
-ghost use Rattle.lines.specs.Contracts.{RackAt, CodeAt, EndsAt, WordAt, LineEndAt, WordsAt, ChangeAt};
+ghost use Rattle.lines.specs.Contracts.{LongAt, RackEndAt, RackAt, CodeAt, EndsAt, WordAt, LineEndAt, WordsAt, ChangeAt};
 
-// The number of vertices, and the position after the line.
+// What line 1 says of the settings: nothing, or a growth and a top level.
+pub enum Settings {
+    Short,
+    Long { growth: u32, top: u32 },
+}
+
+// The settings that line 1 names, and the position after the line.
+pub enum LongRead {
+    Named { growth: u32, top: u32, next: usize },
+    NotNamed,
+}
+
+// The number of vertices and the settings, and the position after the line.
 pub enum RackRead {
-    Rack { n: u32, next: usize },
+    Rack {
+        n: u32,
+        settings: Settings,
+        next: usize,
+    },
     NoRack,
 }
 
@@ -49,7 +65,50 @@ pub enum ChangeRead {
     NoLine,
 }
 
-// "Line 1 is `(rack (boards N))`."
+// Reads `) (growth G) (top T))` and the line feed.
+fn long_at(text: &[u8], at: usize) -> LongRead
+    ensures { λ r. ⌜ LongAt (now (text .entry)) at r ⌝ }
+{
+    let Literal::Next(i) = text::literal_at(text, at, b") (growth ") else {
+        return LongRead::NotNamed;
+    };
+    let Number::Value(growth, j) = text::number_at(text, i) else {
+        return LongRead::NotNamed;
+    };
+    let Literal::Next(k) = text::literal_at(text, j, b") (top ") else {
+        return LongRead::NotNamed;
+    };
+    let Number::Value(top, l) = text::number_at(text, k) else {
+        return LongRead::NotNamed;
+    };
+    let Literal::Next(next) = text::literal_at(text, l, b"))\n") else {
+        return LongRead::NotNamed;
+    };
+    LongRead::Named { growth, top, next }
+}
+
+// The end of line 1, after its N: of the short line, or of the long one.
+fn rack_end_at(text: &[u8], at: usize, n: u32) -> RackRead
+    ensures { λ r. ⌜ RackEndAt (now (text .entry)) at n r ⌝ }
+{
+    if let Literal::Next(next) = text::literal_at(text, at, b"))\n") {
+        return RackRead::Rack {
+            n,
+            settings: Settings::Short,
+            next,
+        };
+    }
+    let LongRead::Named { growth, top, next } = long_at(text, at) else {
+        return RackRead::NoRack;
+    };
+    RackRead::Rack {
+        n,
+        settings: Settings::Long { growth, top },
+        next,
+    }
+}
+
+// "Line 1 is `(rack (boards N))`.", or "may read `(rack (boards N) (growth G) (top T))`".
 pub fn rack_at(text: &[u8], at: usize) -> RackRead
     ensures { λ r. ⌜ RackAt (now (text .entry)) at r ⌝ }
 {
@@ -59,10 +118,7 @@ pub fn rack_at(text: &[u8], at: usize) -> RackRead
     let Number::Value(n, j) = text::number_at(text, i) else {
         return RackRead::NoRack;
     };
-    let Literal::Next(next) = text::literal_at(text, j, b"))\n") else {
-        return RackRead::NoRack;
-    };
-    RackRead::Rack { n, next }
+    rack_end_at(text, j, n)
 }
 
 // Reads `(add (` as code 1, or `(drop (` as code 2.

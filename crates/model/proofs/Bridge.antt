@@ -1,41 +1,48 @@
 -- Bytes and states: a list of as many bytes as a shape has is sound exactly if it is the writing of its own reading, and that state is valid.
--- For any shape that is good, and any rules whose levels it has room for.
+-- For any shape that is good, and any settings.
 -- Assumes nothing.
-use mathlib.Core.Path.{_≡_, sym, ap, subst, _∙_}
+use mathlib.Core.Path.{_≡_, refl, sym, ap, subst, _∙_}
 use mathlib.Core.Logic.{_≢_, _⊎_, inl, inr, _↔_}
 use mathlib.Core.Bool.{_&&_}
 use mathlib.Core.List.{List}
-use Prim.Native.Nat.{ℕ, suc, _-_, _≤_, _<_}
+use Prim.Native.Nat.{ℕ, suc, _-_, _^_, _≤_, _<_}
 use native.Mathlib.Omega.{arith}
 use lib.Dec.{T, ltb, eqb, ltb→lt, lt→ltb}
 use lib.ListN.{length}
 use Rattle.model.specs.Shape.{Shape, GoodShape, low, rackLength}
-use Rattle.model.specs.State.{Rules, base, State, edge, phi, edges}
-use Rattle.model.specs.Bytes.{noMate, sizeAt, rankAt, mateAt, phiAt, ownsAt, rosterAt, roster, named, read, mateEntry, fieldsOf, write}
+use Rattle.model.specs.State.{Kind, rules, InRange, GoodKind, State, edge, phi, edges}
+use Rattle.model.specs.Bytes.{noMate, sizeAt, growthAt, topAt, kindAt, rulesAt, rankAt, mateAt, phiAt, ownsAt, rosterAt, roster, named, read, mateEntry, phiEntry, fieldsOf, write}
 use Rattle.model.specs.Sound.{sound}
 use Rattle.model.specs.Valid.{IsBytes, Valid}
 use Rattle.model.proofs.Tests.{eq?, le?, bool-ext, and-yes, and-left, or-cases}
-use Rattle.model.proofs.Shapes.{low-good, low-room}
-use Rattle.model.proofs.Fields.{size-write, edges-write, spare-write, rank-write, mate-write, phi-write, owns-write, roster-write, image-bytes, Shows, image-is}
+use Rattle.model.proofs.Shapes.{low-good}
+use Rattle.model.proofs.Fields.{size-write, edges-write, growth-write, top-write, kind-write, spare-write, rank-write, mate-write, entry-write, phi-write, owns-write, roster-write, image-bytes, Shows, image-is}
 use Rattle.model.proofs.Facts.{Unused, Mated, Facts, sound-says}
-use Rattle.model.proofs.Reading.{read-shape, named-free, named-mate, read-size, read-rank, read-rank-past, read-mate, read-mate-past, read-owns, read-owned, not-marker, read-write}
-use Rattle.model.proofs.Limits.{edges-fit, edge-within, phi-none, mateEntry-free, mateEntry-mate, size-few, mate-past, mate-inside, phi-past, phi-few, mateEntry-few}
+use Rattle.model.proofs.Reading.{read-kind, named-free, named-mate, read-size, read-rank, read-rank-past, read-mate, read-mate-past, read-owns, read-owned, not-marker, read-write}
+use Rattle.model.proofs.Limits.{edges-fit, edge-within, phi-none, mateEntry-free, mateEntry-mate, size-few, mate-past, mate-inside, phi-past, phi-few, phiEntry-low, phiEntry-le, mateEntry-few}
 
 -- From a valid state to sound bytes.
 -- a valid state is written as bytes
-pub valid-bytes : {R : Rules} {s : State} → GoodShape (s .kind .shape) → R .top < s .kind .shape .levels → Valid R s → IsBytes (write s)
+pub valid-bytes : {s : State} → GoodKind (s .kind) → Valid (rules (s .kind)) s → IsBytes (write s)
 unfolding write fieldsOf
-valid-bytes {R} {s} good top ok = image-bytes (fieldsOf s) good (record {
-  n = omega (arith, size-few ok, good .named);
-  edges = edges-fit s good (size-few ok);
-  rank = λ v l. omega (arith, ok .ranks v, good .ranks);
-  mate = λ v l. mateEntry-few ok good v;
-  phi = λ v j l k. omega (arith, phi-few ok v j, good .counts);
-})
+valid-bytes {s} kind ok =
+    let good : GoodShape (s .kind .shape) = kind .shape in
+    image-bytes (fieldsOf s) good (record {
+      n = omega (arith, size-few ok, good .named);
+      edges = edges-fit s good (size-few ok);
+      growth = omega (arith, kind .range .most);
+      top = omega (arith, kind .range .room, good .ranks);
+      rank = λ v l. omega (arith, ok .ranks v, kind .range .room, good .ranks);
+      mate = λ v l. mateEntry-few ok good v;
+      phi = λ v j l k. omega (arith, phi-few ok v j, good .counts);
+    })
 
-module _ {R : Rules} {s : State} (good : GoodShape (s .kind .shape)) (top : R .top < s .kind .shape .levels) (ok : Valid R s) where
+module _ {s : State} (kind : GoodKind (s .kind)) (ok : Valid (rules (s .kind)) s) where
   abbrev of : Shape
   of = s .kind .shape
+
+  abbrev good : GoodShape of
+  good = kind .shape
 
   -- a vertex below n has its place
   placed : (v : ℕ) → v < sizeAt (write s) → v < of .most
@@ -50,7 +57,7 @@ module _ {R : Rules} {s : State} (good : GoodShape (s .kind .shape)) (top : R .t
       record {
         rank = rank-write s good v l ∙ ok .past v p;
         mate = mate-write s good v l ∙ mateEntry-free s v (mate-past ok v p);
-        phi = λ j h. phi-write s good v j l h ∙ phi-past ok v j p;
+        phi = λ j h. omega (arith, entry-write s good v j l h, phiEntry-le s v j, phi-past ok v j p);
         owns = λ w h t. let i = ok .inside v w (owned v w l h t) in omega arith;
       }
 
@@ -62,7 +69,7 @@ module _ {R : Rules} {s : State} (good : GoodShape (s .kind .shape)) (top : R .t
       let small : w < of .most = omega (arith, mate-inside ok v far, size-few ok) in
       let m : Mated of (write s) v w = record {
         back = mate-write s good w small ∙ mateEntry-mate s w (λ q. far (sym q ∙ ok .mates-back v)) ∙ ok .mates-back v;
-        linked = subst (λ (x : State). T (edge x v w)) (sym (read-write R s good ok)) (ok .mates-linked v far);
+        linked = subst (λ (x : State). T (edge x v w)) (sym (read-write (rules (s .kind)) s good ok)) (ok .mates-linked v far);
         level = rank-write s good w small ∙ ok .mates-level v ∙ sym (rank-write s good v (placed v l));
       } in
       subst (Mated of (write s) v) (sym (e ∙ mateEntry-mate s v far)) m
@@ -71,20 +78,21 @@ module _ {R : Rules} {s : State} (good : GoodShape (s .kind .shape)) (top : R .t
   marker-free : (v : ℕ) → mateEntry s v ≡ noMate → s .mate v ≡ v
   marker-free v e = elim (eq? (s .mate v) v) [
     | inl q ↦ q
-    | inr d ↦ absurd (not-marker R s good ok v d (sym (mateEntry-mate s v d) ∙ e))
+    | inr d ↦ absurd (not-marker (rules (s .kind)) s good ok v d (sym (mateEntry-mate s v d) ∙ e))
   ]
 
-  write-facts : Facts R of (write s)
+  write-facts : Facts of (write s)
   write-facts = record {
     spare = spare-write s good;
+    settings = subst InRange (sym (kind-write s good)) (kind .range);
     unused = write-unused;
     unnamed = λ v l w k p t. let i = ok .inside v w (owned v w l k t) in omega (arith, size-write s good);
     size = (omega (arith, size-write s good, ok .some), omega (arith, size-write s good, size-few ok));
-    ranks = λ v l. omega (arith, rank-write s good v (placed v l), ok .ranks v);
+    ranks = λ v l. omega (arith, rank-write s good v (placed v l), top-write s good, ok .ranks v);
     no-loop = λ v l t. ok .no-loop v (owned v v (placed v l) (placed v l) t);
     owned-once = λ v l w k t. ok .owned-once v w (owned v w (placed v l) (placed w k) (t .0)) (owned w v (placed w k) (placed v l) (t .1));
-    edges = edges-write s good (size-few ok) ∙ ap edges (sym (read-write R s good ok));
-    phi = λ v l j h. phi-write s good v j (placed v l) h ∙ ap (λ (x : State). phi x v j) (sym (read-write R s good ok));
+    edges = edges-write s good (size-few ok) ∙ ap edges (sym (read-write (rules (s .kind)) s good ok));
+    phi = λ v l j h. entry-write s good v j (placed v l) h ∙ ap (λ (x : State). phiEntry x v j) (sym (read-write (rules (s .kind)) s good ok));
     owner-high = λ v l w k t.
         omega (arith, rank-write s good v (placed v l), rank-write s good w (placed w k), ok .owner-high v w (owned v w (placed v l) (placed w k) t));
     mated = write-mated;
@@ -92,7 +100,9 @@ module _ {R : Rules} {s : State} (good : GoodShape (s .kind .shape)) (top : R .t
       λ e. rank-write s good v (placed v l) ∙ ok .free-low v (marker-free v (sym (mate-write s good v (placed v l)) ∙ e)),
       λ e. mate-write s good v (placed v l) ∙ mateEntry-free s v (ok .low-free v (sym (rank-write s good v (placed v l)) ∙ e)),
     );
-    phi-low = λ v l j h. omega (arith, phi-write s good v j (placed v l) (omega arith), ok .phi-low v j (omega arith));
+    phi-low = λ v l j h.
+        let k : j ≤ s .kind .top = omega (arith, top-write s good) in
+        omega (arith, phi-write s good v j (placed v l) (omega (arith, kind .range .room)) k, ok .phi-low v j k, ap (λ (g : ℕ). g ^ j) (growth-write s good));
     rosters = λ v l r h.
         roster-write s good r v h (placed v l) ∙ and-yes (ltb v (s .n)) (eqb (s .rank v) r) (lt→ltb v (s .n) (omega (arith, size-write s good)))
         ∙ ap (λ (x : ℕ). eqb x r) (sym (rank-write s good v (placed v l)));
@@ -102,13 +112,13 @@ module _ {R : Rules} {s : State} (good : GoodShape (s .kind .shape)) (top : R .t
   }
 
 -- what is written of a valid state is sound
-pub write-sound : (R : Rules) (s : State) → GoodShape (s .kind .shape) → R .top < s .kind .shape .levels → Valid R s → T (sound R (s .kind .shape) (write s))
-write-sound R s good top ok = sound-says R (s .kind .shape) (write s) .test (write-facts good top ok)
+pub write-sound : (s : State) → GoodKind (s .kind) → Valid (rules (s .kind)) s → T (sound (s .kind .shape) (write s))
+write-sound s kind ok = sound-says (s .kind .shape) (write s) .test (write-facts kind ok)
 
 -- bytes that are the writing of their own reading are sound where it is valid
-pub valid-sound : (R : Rules) (S : Shape) → GoodShape S → R .top < S .levels → (bs : List ℕ) → bs ≡ write (read S bs) → Valid R (read S bs) → T (sound R S bs)
+pub valid-sound : (S : Shape) (bs : List ℕ) → GoodKind (kindAt S bs) → bs ≡ write (read S bs) → Valid (rulesAt bs) (read S bs) → T (sound S bs)
 unfolding read
-valid-sound R S good top bs e ok = subst (λ (x : List ℕ). T (sound R S x)) (sym e) (write-sound R (read S bs) good top ok)
+valid-sound S bs kind e ok = subst (λ (x : List ℕ). T (sound S x)) (sym e) (write-sound (read S bs) kind ok)
 
 -- From sound bytes to a valid state.
 -- v is free, at rank 0
@@ -126,7 +136,7 @@ record Paired (S : Shape) (bs : List ℕ) (v : ℕ) : Type 0 where
   entry : mateAt S bs v ≢ noMate
   right : Mated S bs v (mateAt S bs v)
 
-module _ {R : Rules} {S : Shape} {bs : List ℕ} (good : GoodShape S) (top : R .top < S .levels) (f : Facts R S bs) where
+module _ {S : Shape} {bs : List ℕ} (good : GoodShape S) (f : Facts S bs) where
   read-inside : (v w : ℕ) → T (read S bs .owns v w) → (v < read S bs .n) × (w < read S bs .n)
   read-inside v w t = let r = read-owned S bs v w t in (omega (arith, read-size S bs), omega (arith, read-size S bs))
 
@@ -188,23 +198,28 @@ module _ {R : Rules} {S : Shape} {bs : List ℕ} (good : GoodShape S) (top : R .
     | inr p ↦ absurd (p .entry (f .free-low v (p .here) .1 (sym (read-rank S bs v (p .here)) ∙ e)))
   ]
 
-  valid-ranks : (v : ℕ) → read S bs .rank v ≤ suc (R .top)
+  valid-ranks : (v : ℕ) → read S bs .rank v ≤ suc (topAt bs)
   valid-ranks v = elim (le? (sizeAt bs) v) [
     | inl p ↦ omega (arith, read-rank-past S bs v p)
     | inr l ↦ omega (arith, read-rank S bs v l, f .ranks v l)
   ]
 
+  low-is : {j : ℕ} → j ≤ topAt bs → j ≤ read S bs .kind .top
+  unfolding read
+  low-is h = h
+
   -- past n nothing is counted, and each threshold is above 0, since vertex 0 is below it
-  valid-phi : (v j : ℕ) → j ≤ R .top → phi (read S bs) v j < R .thr j
+  valid-phi : (v j : ℕ) → j ≤ topAt bs → phi (read S bs) v j < growthAt bs ^ j
   valid-phi v j h = elim (le? (sizeAt bs) v) [
     | inl p ↦ omega (arith, phi-none (read S bs) read-inside v j (omega (arith, read-size S bs)), f .phi-low 0 (f .size .0) j (omega arith))
-    | inr l ↦ omega (arith, f .phi v l j (omega arith), f .phi-low v l j (omega arith))
+    | inr l ↦
+        omega (arith, f .phi v l j (omega (arith, f .settings .room)), phiEntry-low (read S bs) v j (low-is h), f .phi-low v l j (omega arith))
   ]
 
-  read-valid : Valid R (read S bs)
+  read-valid : Valid (rulesAt bs) (read S bs)
   read-valid = record {
     some = omega (arith, f .size, read-size S bs);
-    few = omega (arith, f .size, read-size S bs, ap (λ (x : Shape). x .most) (read-shape S bs));
+    few = omega (arith, f .size, read-size S bs, ap (λ (x : Shape). x .most) (ap (λ (K : Kind). K .shape) (read-kind S bs)));
     inside = read-inside;
     past = λ v p. read-rank-past S bs v (omega (arith, read-size S bs));
     ranks = valid-ranks;
@@ -233,9 +248,14 @@ module _ {R : Rules} {S : Shape} {bs : List ℕ} (good : GoodShape S) (top : R .
     | inr p ↦ sym (mateEntry-mate (read S bs) v (p .other) ∙ p .mate)
   ]
 
-  same-phi : (v j : ℕ) → v < S .most → j < S .levels → phiAt S bs v j ≡ phi (read S bs) v j
+  same-phi : (v j : ℕ) → v < S .most → j < S .levels → phiAt S bs v j ≡ phiEntry (read S bs) v j
   same-phi v j l h = elim (le? (sizeAt bs) v) [
-    | inl p ↦ f .unused v l p .phi j h ∙ sym (phi-none (read S bs) read-inside v j (omega (arith, read-size S bs)))
+    | inl p ↦ omega (
+      arith,
+      f .unused v l p .phi j h,
+      phiEntry-le (read S bs) v j,
+      phi-none (read S bs) read-inside v j (omega (arith, read-size S bs)),
+    )
     | inr k ↦ f .phi v k j h
   ]
 
@@ -263,6 +283,8 @@ module _ {R : Rules} {S : Shape} {bs : List ℕ} (good : GoodShape S) (top : R .
   shown = record {
     size = sym (read-size S bs);
     edges = f .edges;
+    growth = refl;
+    top = refl;
     spare = f .spare;
     rank = same-rank;
     mate = same-mate;
@@ -272,19 +294,20 @@ module _ {R : Rules} {S : Shape} {bs : List ℕ} (good : GoodShape S) (top : R .
   }
 
 -- sound bytes are the writing of their own reading, which is valid
-pub sound-valid : (R : Rules) (S : Shape) → GoodShape S → R .top < S .levels → (bs : List ℕ) → IsBytes bs → length bs ≡ rackLength S → T (sound R S bs)
-    → (bs ≡ write (read S bs)) × Valid R (read S bs)
+pub sound-valid : (S : Shape) → GoodShape S → (bs : List ℕ) → IsBytes bs → length bs ≡ rackLength S → T (sound S bs)
+    → (bs ≡ write (read S bs)) × (GoodKind (kindAt S bs) × Valid (rulesAt bs) (read S bs))
 unfolding read fieldsOf write
-sound-valid R S good top bs hb e t =
-    let f : Facts R S bs = sound-says R S bs .fact t in
-    let ok : Valid R (read S bs) = read-valid good top f in
-    (image-is (fieldsOf (read S bs)) good bs hb (shown good top f) e, ok)
+sound-valid S good bs hb e t =
+    let f : Facts S bs = sound-says S bs .fact t in
+    (image-is (fieldsOf (read S bs)) good bs hb (shown good f) e, (record { shape = good; range = f .settings }, read-valid good f))
 
--- A list of as many bytes as the shape has is sound exactly if it is the writing of its own reading and the state that it reads as is valid.
-pub bridge : (R : Rules) (S : Shape) → GoodShape S → R .top < S .levels → (bs : List ℕ) → IsBytes bs → length bs ≡ rackLength S
-    → T (sound R S bs) ↔ ((bs ≡ write (read S bs)) × Valid R (read S bs))
-bridge R S good top bs hb e = (sound-valid R S good top bs hb e, λ h. valid-sound R S good top bs (h .0) (h .1))
+-- A list of as many bytes as the shape has is sound exactly if it is the writing of its own reading, its settings are in their ranges, and the state
+-- that it reads as is valid by them.
+pub bridge : (S : Shape) → GoodShape S → (bs : List ℕ) → IsBytes bs → length bs ≡ rackLength S
+    → T (sound S bs) ↔ ((bs ≡ write (read S bs)) × (GoodKind (kindAt S bs) × Valid (rulesAt bs) (read S bs)))
+bridge S good bs hb e = (sound-valid S good bs hb e, λ h. valid-sound S bs (h .1 .0) (h .0) (h .1 .1))
 
 -- The 10,152 bytes of the papers' rack.
-pub bridge-low : (bs : List ℕ) → IsBytes bs → length bs ≡ 10152 → T (sound base low bs) ↔ ((bs ≡ write (read low bs)) × Valid base (read low bs))
-bridge-low = bridge base low low-good low-room
+pub bridge-low : (bs : List ℕ) → IsBytes bs → length bs ≡ 10152
+    → T (sound low bs) ↔ ((bs ≡ write (read low bs)) × (GoodKind (kindAt low bs) × Valid (rulesAt bs) (read low bs)))
+bridge-low = bridge low low-good

@@ -3,15 +3,15 @@ use mathlib.Core.Path.{_≡_, refl, sym, subst}
 use mathlib.Core.Logic.{_≢_}
 use mathlib.Core.Bool.{Bool, true, false, not, _&&_, _||_}
 use mathlib.Core.List.{List}
-use Prim.Native.Nat.{ℕ, suc, _+_, _≤_, _<_}
+use Prim.Native.Nat.{ℕ, suc, _+_, _^_, _≤_, _<_}
 use native.Mathlib.Omega.{arith}
 use lib.Dec.{T, leb, ltb, eqb, leb→le, le→leb, eqb→eq, not-T, T-not}
 use lib.ListN.{getD}
 use Rattle.model.specs.Counting.{every}
 use Rattle.model.specs.Shape.{Shape}
-use Rattle.model.specs.State.{Rules, edge, phi, edges}
-use Rattle.model.specs.Bytes.{noMate, sizeAt, edgesAt, rankAt, mateAt, phiAt, ownsAt, rosterAt, read}
-use Rattle.model.specs.Sound.{spareZero, unused, pastUnused, pastUnnamed, sizeGood, ranksGood, noLoop, ownedOnce, edgesRight, phiRight, ownerHigh, mated, matesGood, freeLow, phiLow, agree, rostersRight, rostersClear, sound}
+use Rattle.model.specs.State.{Kind, InRange, leastGrowth, mostGrowth, edge, edges}
+use Rattle.model.specs.Bytes.{noMate, sizeAt, edgesAt, growthAt, topAt, kindAt, rankAt, mateAt, phiAt, ownsAt, rosterAt, read, phiEntry}
+use Rattle.model.specs.Sound.{spareZero, settingsGood, unused, pastUnused, pastUnnamed, sizeGood, ranksGood, noLoop, ownedOnce, edgesRight, phiRight, ownerHigh, mated, matesGood, freeLow, phiLow, agree, rostersRight, rostersClear, sound}
 use Rattle.model.proofs.Tests.{eqb-yes, true-T, and-intro, and-left, and-right}
 use Rattle.model.proofs.Counting.{every-all, all-every}
 
@@ -79,6 +79,15 @@ pub sizeGood-says : (S : Shape) (n : ℕ) → Says (sizeGood S n) ((1 ≤ n) × 
 unfolding sizeGood
 sizeGood-says S n = and-says (leb-says 1 n) (leb-says n (S .most))
 
+pub settingsGood-says : (K : Kind) → Says (settingsGood K) (InRange K)
+unfolding settingsGood
+settingsGood-says K =
+    let e = and-says (leb-says leastGrowth (K .growth)) (and-says (leb-says (K .growth) mostGrowth) (leb-says (suc (K .top)) (K .shape .levels))) in
+    record {
+      fact = λ h. let u = e .fact h in record { least = u .0; most = u .1 .0; room = u .1 .1 };
+      test = λ u. e .test (u .least, (u .most, u .room));
+    }
+
 module _ (S : Shape) (bs : List ℕ) where
   pub unused-says : (v : ℕ) → Says (unused S bs v) (Unused S bs v)
   unfolding unused
@@ -100,9 +109,9 @@ module _ (S : Shape) (bs : List ℕ) where
       }
 
   -- a test in each line of document 01's list
-  pub spareZero-says : Says (spareZero S bs) ((k : ℕ) → k < 2 + S .spare → getD bs (4 + k) 0 ≡ 0)
+  pub spareZero-says : Says (spareZero S bs) ((k : ℕ) → k < S .spare → getD bs (6 + k) 0 ≡ 0)
   unfolding spareZero
-  spareZero-says = every-says (2 + S .spare) (λ k. eqb-says (getD bs (4 + k) 0) 0)
+  spareZero-says = every-says (S .spare) (λ k. eqb-says (getD bs (6 + k) 0) 0)
 
   pub pastUnused-says : Says (pastUnused S bs) ((v : ℕ) → v < S .most → sizeAt bs ≤ v → Unused S bs v)
   unfolding pastUnused
@@ -112,9 +121,9 @@ module _ (S : Shape) (bs : List ℕ) where
   unfolding pastUnnamed
   pastUnnamed-says = every-says (S .most) (λ v. every-says (S .most) (λ w. past-says w (sizeAt bs) (not-says (self-says (ownsAt S bs v w)))))
 
-  pub ranksGood-says : (R : Rules) → Says (ranksGood R bs) ((v : ℕ) → v < sizeAt bs → rankAt bs v ≤ suc (R .top))
+  pub ranksGood-says : Says (ranksGood bs) ((v : ℕ) → v < sizeAt bs → rankAt bs v ≤ suc (topAt bs))
   unfolding ranksGood
-  ranksGood-says R = every-says (sizeAt bs) (λ v. leb-says (rankAt bs v) (suc (R .top)))
+  ranksGood-says = every-says (sizeAt bs) (λ v. leb-says (rankAt bs v) (suc (topAt bs)))
 
   pub noLoop-says : Says (noLoop S bs) ((v : ℕ) → v < sizeAt bs → T (ownsAt S bs v v) → ⊥)
   unfolding noLoop
@@ -130,9 +139,9 @@ module _ (S : Shape) (bs : List ℕ) where
   unfolding edgesRight
   edgesRight-says = eqb-says (edgesAt S bs) (edges (read S bs))
 
-  pub phiRight-says : Says (phiRight S bs) ((v : ℕ) → v < sizeAt bs → (j : ℕ) → j < S .levels → phiAt S bs v j ≡ phi (read S bs) v j)
+  pub phiRight-says : Says (phiRight S bs) ((v : ℕ) → v < sizeAt bs → (j : ℕ) → j < S .levels → phiAt S bs v j ≡ phiEntry (read S bs) v j)
   unfolding phiRight
-  phiRight-says = every-says (sizeAt bs) (λ v. every-says (S .levels) (λ j. eqb-says (phiAt S bs v j) (phi (read S bs) v j)))
+  phiRight-says = every-says (sizeAt bs) (λ v. every-says (S .levels) (λ j. eqb-says (phiAt S bs v j) (phiEntry (read S bs) v j)))
 
   pub ownerHigh-says : Says (ownerHigh S bs)
       ((v : ℕ) → v < sizeAt bs → (w : ℕ) → w < sizeAt bs → T (ownsAt S bs v w) → rankAt bs w ≤ rankAt bs v)
@@ -152,9 +161,9 @@ module _ (S : Shape) (bs : List ℕ) where
       (imp-says (eqb-says (mateAt S bs v) noMate) (eqb-says (rankAt bs v) 0))
       (imp-says (eqb-says (rankAt bs v) 0) (eqb-says (mateAt S bs v) noMate)))
 
-  pub phiLow-says : (R : Rules) → Says (phiLow R S bs) ((v : ℕ) → v < sizeAt bs → (j : ℕ) → j < suc (R .top) → phiAt S bs v j < R .thr j)
+  pub phiLow-says : Says (phiLow S bs) ((v : ℕ) → v < sizeAt bs → (j : ℕ) → j < suc (topAt bs) → phiAt S bs v j < growthAt bs ^ j)
   unfolding phiLow
-  phiLow-says R = every-says (sizeAt bs) (λ v. every-says (suc (R .top)) (λ j. leb-says (suc (phiAt S bs v j)) (R .thr j)))
+  phiLow-says = every-says (sizeAt bs) (λ v. every-says (suc (topAt bs)) (λ j. leb-says (suc (phiAt S bs v j)) (growthAt bs ^ j)))
 
   pub rostersRight-says : Says (rostersRight S bs) ((v : ℕ) → v < sizeAt bs → (r : ℕ) → r < suc (S .levels) → rosterAt S bs r v ≡ eqb (rankAt bs v) r)
   unfolding rostersRight
@@ -168,44 +177,46 @@ module _ (S : Shape) (bs : List ℕ) where
       every-says (suc (S .levels)) (λ r. every-says (S .most) (λ v. past-says v (sizeAt bs) (not-says (self-says (rosterAt S bs r v)))))
 
 -- all that is tested of a sound rack, in the order of the tests
-pub record Facts (R : Rules) (S : Shape) (bs : List ℕ) : Type 0 where
-  pub spare : (k : ℕ) → k < 2 + S .spare → getD bs (4 + k) 0 ≡ 0
+pub record Facts (S : Shape) (bs : List ℕ) : Type 0 where
+  pub spare : (k : ℕ) → k < S .spare → getD bs (6 + k) 0 ≡ 0
+  pub settings : InRange (kindAt S bs)
   pub unused : (v : ℕ) → v < S .most → sizeAt bs ≤ v → Unused S bs v
   pub unnamed : (v : ℕ) → v < S .most → (w : ℕ) → w < S .most → sizeAt bs ≤ w → T (ownsAt S bs v w) → ⊥
   pub size : (1 ≤ sizeAt bs) × (sizeAt bs ≤ S .most)
-  pub ranks : (v : ℕ) → v < sizeAt bs → rankAt bs v ≤ suc (R .top)
+  pub ranks : (v : ℕ) → v < sizeAt bs → rankAt bs v ≤ suc (topAt bs)
   pub no-loop : (v : ℕ) → v < sizeAt bs → T (ownsAt S bs v v) → ⊥
   pub owned-once : (v : ℕ) → v < sizeAt bs → (w : ℕ) → w < sizeAt bs → (T (ownsAt S bs v w) × T (ownsAt S bs w v)) → ⊥
   pub edges : edgesAt S bs ≡ edges (read S bs)
-  pub phi : (v : ℕ) → v < sizeAt bs → (j : ℕ) → j < S .levels → phiAt S bs v j ≡ phi (read S bs) v j
+  pub phi : (v : ℕ) → v < sizeAt bs → (j : ℕ) → j < S .levels → phiAt S bs v j ≡ phiEntry (read S bs) v j
   pub owner-high : (v : ℕ) → v < sizeAt bs → (w : ℕ) → w < sizeAt bs → T (ownsAt S bs v w) → rankAt bs w ≤ rankAt bs v
   pub mated : (v : ℕ) → v < sizeAt bs → mateAt S bs v ≢ noMate → Mated S bs v (mateAt S bs v)
   pub free-low : (v : ℕ) → v < sizeAt bs → (mateAt S bs v ≡ noMate → rankAt bs v ≡ 0) × (rankAt bs v ≡ 0 → mateAt S bs v ≡ noMate)
-  pub phi-low : (v : ℕ) → v < sizeAt bs → (j : ℕ) → j < suc (R .top) → phiAt S bs v j < R .thr j
+  pub phi-low : (v : ℕ) → v < sizeAt bs → (j : ℕ) → j < suc (topAt bs) → phiAt S bs v j < growthAt bs ^ j
   pub rosters : (v : ℕ) → v < sizeAt bs → (r : ℕ) → r < suc (S .levels) → rosterAt S bs r v ≡ eqb (rankAt bs v) r
   pub clear : (r : ℕ) → r < suc (S .levels) → (v : ℕ) → v < S .most → sizeAt bs ≤ v → T (rosterAt S bs r v) → ⊥
 
 both : {P Q : Type 0} → P → Q → P × Q
 both p q = (p, q)
 
-pub sound-says : (R : Rules) (S : Shape) (bs : List ℕ) → Says (sound R S bs) (Facts R S bs)
+pub sound-says : (S : Shape) (bs : List ℕ) → Says (sound S bs) (Facts S bs)
 unfolding sound
-sound-says R S bs =
+sound-says S bs =
     let e =
-    and-says (spareZero-says S bs) (and-says (pastUnused-says S bs) (and-says (pastUnnamed-says S bs) (and-says (sizeGood-says S (sizeAt bs))
-    (and-says (ranksGood-says S bs R) (and-says (noLoop-says S bs) (and-says (ownedOnce-says S bs) (and-says (edgesRight-says S bs)
+    and-says (spareZero-says S bs) (and-says (settingsGood-says (kindAt S bs)) (and-says (pastUnused-says S bs) (and-says (pastUnnamed-says S bs) (and-says (sizeGood-says S (sizeAt bs))
+    (and-says (ranksGood-says S bs) (and-says (noLoop-says S bs) (and-says (ownedOnce-says S bs) (and-says (edgesRight-says S bs)
     (and-says (phiRight-says S bs) (and-says (ownerHigh-says S bs) (and-says (matesGood-says S bs) (and-says (freeLow-says S bs)
-    (and-says (phiLow-says S bs R) (and-says (rostersRight-says S bs) (rostersClear-says S bs)))))))))))))) in
+    (and-says (phiLow-says S bs) (and-says (rostersRight-says S bs) (rostersClear-says S bs))))))))))))))) in
     record {
       fact = λ h.
           let a = e .fact h in
-          let b = a .1 .1 .1 .1 in
+          let b = a .1 .1 .1 .1 .1 in
           let c = b .1 .1 .1 .1 in
           record {
             spare = a .0;
-            unused = a .1 .0;
-            unnamed = a .1 .1 .0;
-            size = a .1 .1 .1 .0;
+            settings = a .1 .0;
+            unused = a .1 .1 .0;
+            unnamed = a .1 .1 .1 .0;
+            size = a .1 .1 .1 .1 .0;
             ranks = b .0;
             no-loop = b .1 .0;
             owned-once = b .1 .1 .0;
@@ -218,8 +229,8 @@ sound-says R S bs =
             rosters = c .1 .1 .1 .1 .1 .0;
             clear = c .1 .1 .1 .1 .1 .1;
           };
-      test = λ f. e .test (both (f .spare) (both (f .unused) (both (f .unnamed) (both (f .size)
+      test = λ f. e .test (both (f .spare) (both (f .settings) (both (f .unused) (both (f .unnamed) (both (f .size)
           (both (f .ranks) (both (f .no-loop) (both (f .owned-once) (both (f .edges)
           (both (f .phi) (both (f .owner-high) (both (f .mated) (both (f .free-low)
-          (both (f .phi-low) (both (f .rosters) (f .clear)))))))))))))));
+          (both (f .phi-low) (both (f .rosters) (f .clear))))))))))))))));
     }

@@ -8,7 +8,7 @@ use native.Mathlib.Omega.{arith}
 use lib.Dec.{T, eqb, leb}
 use Rattle.model.specs.Counting.{sum, count, every}
 use Rattle.model.specs.Shape.{low}
-use Rattle.model.specs.State.{State, base, edge, near, below, phi}
+use Rattle.model.specs.State.{State, edge, near, below, phi}
 use Rattle.model.specs.Bytes.{write}
 use Rattle.model.specs.Sound.{sound}
 use Rattle.model.specs.Change.{Change}
@@ -19,14 +19,14 @@ use Rattle.model.proofs.Bench.{zeros, star, hub}
 -- Vertex 0 is paired with 1 on level 0 and has two free neighbours, 2 and 3; its other neighbours, 5 to 16, are paired on level 1 and
 -- own their links to 0. So a fifth neighbour makes its count 4 at level 1 and 16 at level 2 at once.
 unfoldable pub crowd : State
-crowd = laid 17
+crowd = laid 4 3 17
     (λ v. cond (leb v 1) 1 (cond (leb v 4) 0 2))
     (λ v. cond (eqb v 0) 1 (cond (eqb v 1) 0 (cond (leb v 4) v (cond (eqb (v % 2) 1) (v + 1) (v - 1)))))
     (λ v w. eqb v 0 && (leb 1 w && leb w 3) || leb 5 v && (eqb w 0 || eqb (v % 2) 1 && eqb w (v + 1)))
 
-pub crowd-sound : T (sound base low (write crowd))
+pub crowd-sound : T (sound low (write crowd))
 unfolding crowd
-crowd-sound = laid-sound 17 _ _ _ (omega arith) (omega arith) (unfold laid base tested every sum count edge near below phi in tt)
+crowd-sound = laid-sound 4 3 17 _ _ _ (omega arith) (omega arith) (omega arith) (omega arith) (omega arith) (unfold laid tested every sum count edge near below phi in tt)
 
 words : List ℕ
 words = 1 ∷ 0 ∷ 0 ∷ 0 ∷ 0 ∷ 0 ∷ 0 ∷ 0 ∷ []

@@ -17,6 +17,7 @@ pub mod Bridge
 pub mod Tested
 pub mod Table
 pub mod Bench
+pub mod Growths
 pub mod Hands
 pub mod Order
 pub mod Deciding

@@ -10,7 +10,7 @@ use lib.Dec.{T, leb, ltb, leb→le}
 use Rattle.model.specs.Shape.{GoodShape}
 use Rattle.model.specs.Counting.{count}
 use Rattle.model.specs.State.{Rules, State, edge, near, below, phi, edges}
-use Rattle.model.specs.Bytes.{noMate, half, mateEntry}
+use Rattle.model.specs.Bytes.{noMate, half, upToTop, mateEntry, phiEntry}
 use Rattle.model.specs.Valid.{Valid}
 use Rattle.model.proofs.Tests.{eq?, le?, eqb-yes, eqb-no, leb-yes, leb-no, and-left, or-cases}
 use Rattle.model.proofs.Counting.{sum-bound, count-none, count-miss}
@@ -68,6 +68,35 @@ mateEntry-free s v e = rw (eqb-yes (s .mate v) v e, mateEntry) refl
 pub mateEntry-mate : (s : State) (v : ℕ) → s .mate v ≢ v → mateEntry s v ≡ s .mate v
 unfolding mateEntry
 mateEntry-mate s v e = rw (eqb-no (s .mate v) v e, mateEntry) refl
+
+-- a count up to the top is written as it is, and 0 above
+module _ (top : ℕ) (counts : ℕ → ℕ → ℕ) (v j : ℕ) where
+  pub upTo-low : j ≤ top → upToTop top counts v j ≡ counts v j
+  unfolding upToTop
+  upTo-low h = rw (leb-yes j top h, upToTop) refl
+
+  pub upTo-above : top < j → upToTop top counts v j ≡ 0
+  unfolding upToTop
+  upTo-above h = rw (leb-no j top h, upToTop) refl
+
+  pub upTo-le : upToTop top counts v j ≤ counts v j
+  unfolding upToTop
+  upTo-le = pick-le (leb j top) (counts v j)
+
+pub upTo-same : (top : ℕ) (c d : ℕ → ℕ → ℕ) (v j : ℕ) → c v j ≡ d v j → upToTop top c v j ≡ upToTop top d v j
+unfolding upToTop
+upTo-same top c d v j e = ap (λ (x : ℕ). elim (leb j top) as (λ y. ℕ) [ true ↦ x | false ↦ 0 ]) e
+
+-- and so are the counts of a state
+module _ (s : State) (v j : ℕ) where
+  pub phiEntry-low : j ≤ s .kind .top → phiEntry s v j ≡ phi s v j
+  phiEntry-low = upTo-low (s .kind .top) (phi s) v j
+
+  pub phiEntry-above : s .kind .top < j → phiEntry s v j ≡ 0
+  phiEntry-above = upTo-above (s .kind .top) (phi s) v j
+
+  pub phiEntry-le : phiEntry s v j ≤ phi s v j
+  phiEntry-le = upTo-le (s .kind .top) (phi s) v j
 
 -- where nothing is owned from n on, no edge leads there, and so nothing is counted there
 module _ (s : State) (inside : (v w : ℕ) → T (s .owns v w) → (v < s .n) × (w < s .n)) where

@@ -8,7 +8,7 @@ use lib.Dec.{T, eqb, leb}
 use lib.ListN.{getD}
 use Rattle.model.specs.Counting.{sum, count, every}
 use Rattle.model.specs.Shape.{low}
-use Rattle.model.specs.State.{State, base, edge, near, below, phi}
+use Rattle.model.specs.State.{State, edge, near, below, phi}
 use Rattle.model.specs.Bytes.{write}
 use Rattle.model.specs.Sound.{sound}
 use Rattle.model.specs.Change.{Change}
@@ -23,36 +23,36 @@ rivals = adds 0 4 zeros ∷ adds 1 3 zeros ∷ adds 0 2 zeros ∷ adds 2 4 zeros
 -- 5 and 6 are mates on level 1, and 0 and 1 on level 0; 0 has three neighbours below level 1, and 5 besides; 4, a neighbour of 1 and of 5,
 -- is free
 unfoldable pub ledge : State
-ledge = laid 7
+ledge = laid 4 3 7
     (λ v. getD (1 ∷ 1 ∷ 0 ∷ 0 ∷ 0 ∷ 2 ∷ 2 ∷ []) v 0)
     (λ v. getD (1 ∷ 0 ∷ 2 ∷ 3 ∷ 4 ∷ 6 ∷ 5 ∷ []) v v)
     (λ v w. eqb v 0 && (leb 1 w && leb w 3) || (eqb v 1 && eqb w 4 || eqb v 5 && (eqb w 0 || (eqb w 4 || eqb w 6))))
 
 -- 0 and 2 are mates on level 1, and 1 and 5 on level 0; 0 is linked to all, and 5 to 1, 2 and 3
 unfoldable pub shelf : State
-shelf = laid 6
+shelf = laid 4 3 6
     (λ v. getD (2 ∷ 1 ∷ 2 ∷ 0 ∷ 0 ∷ 1 ∷ []) v 0)
     (λ v. getD (2 ∷ 5 ∷ 0 ∷ 3 ∷ 4 ∷ 1 ∷ []) v v)
     (λ v w. eqb v 0 && leb 1 w || (eqb v 2 && eqb w 5 || eqb v 5 && (eqb w 1 || eqb w 3)))
 
 -- 1 and 4 are mates on level 1, and 3 and 5 on level 0; 3 and 5 have the neighbours 1, 4 and 6, and 0 or 2
 unfoldable pub perch : State
-perch = laid 7
+perch = laid 4 3 7
     (λ v. getD (0 ∷ 2 ∷ 0 ∷ 1 ∷ 2 ∷ 1 ∷ 0 ∷ []) v 0)
     (λ v. getD (0 ∷ 4 ∷ 2 ∷ 5 ∷ 1 ∷ 3 ∷ 6 ∷ []) v v)
     (λ v w. eqb v 1 && (leb 3 w && leb w 5) || (eqb v 4 && (eqb w 3 || eqb w 5) || (eqb v 3 && (eqb w 0 || leb 5 w) || eqb v 5 && (eqb w 2 || eqb w 6))))
 
-pub ledge-sound : T (sound base low (write ledge))
+pub ledge-sound : T (sound low (write ledge))
 unfolding ledge
-ledge-sound = laid-sound 7 _ _ _ (omega arith) (omega arith) (unfold laid base tested every sum count edge near below phi in tt)
+ledge-sound = laid-sound 4 3 7 _ _ _ (omega arith) (omega arith) (omega arith) (omega arith) (omega arith) (unfold laid tested every sum count edge near below phi in tt)
 
-pub shelf-sound : T (sound base low (write shelf))
+pub shelf-sound : T (sound low (write shelf))
 unfolding shelf
-shelf-sound = laid-sound 6 _ _ _ (omega arith) (omega arith) (unfold laid base tested every sum count edge near below phi in tt)
+shelf-sound = laid-sound 4 3 6 _ _ _ (omega arith) (omega arith) (omega arith) (omega arith) (omega arith) (unfold laid tested every sum count edge near below phi in tt)
 
-pub perch-sound : T (sound base low (write perch))
+pub perch-sound : T (sound low (write perch))
 unfolding perch
-perch-sound = laid-sound 7 _ _ _ (omega arith) (omega arith) (unfold laid base tested every sum count edge near below phi in tt)
+perch-sound = laid-sound 4 3 7 _ _ _ (omega arith) (omega arith) (omega arith) (omega arith) (omega arith) (unfold laid tested every sum count edge near below phi in tt)
 
 unfoldable pub order : List Row
 order =

@@ -7,10 +7,10 @@ use native.Mathlib.Omega.{arith}
 use lib.Dec.{T, ltb, leb→le}
 use Rattle.model.specs.Shape.{Shape, GoodShape}
 use Rattle.model.specs.State.{Rules, State}
-use Rattle.model.specs.Bytes.{noMate, sizeAt, rankAt, mateAt, ownsAt, named, read, mateEntry, write}
+use Rattle.model.specs.Bytes.{noMate, sizeAt, kindAt, rankAt, mateAt, ownsAt, named, read, mateEntry, write}
 use Rattle.model.specs.Valid.{Valid}
 use Rattle.model.proofs.Tests.{eq?, le?, bool-ext, eqb-yes, eqb-no, leb-yes, leb-no, and-left, and-right}
-use Rattle.model.proofs.Fields.{size-write, rank-write, mate-write, owns-write}
+use Rattle.model.proofs.Fields.{size-write, kind-write, rank-write, mate-write, owns-write}
 use Rattle.model.proofs.Limits.{mateEntry-free, mateEntry-mate, size-few, mate-past, mate-inside}
 
 -- The mate that an entry names.
@@ -28,9 +28,9 @@ module _ (S : Shape) (bs : List ℕ) where
   unfolding read
   read-size = refl
 
-  pub read-shape : read S bs .kind .shape ≡ S
+  pub read-kind : read S bs .kind ≡ kindAt S bs
   unfolding read
-  read-shape = refl
+  read-kind = refl
 
   pub read-rank : (v : ℕ) → v < sizeAt bs → read S bs .rank v ≡ rankAt bs v
   unfolding read
@@ -100,7 +100,7 @@ module _ (s : State) (good : GoodShape (s .kind .shape)) (few : s .n ≤ s .kind
   pub read-back : read S (write s) ≡ s
   unfolding read
   read-back = λ i. record {
-    kind = s .kind;
+    kind = kind-write s good i;
     n = size-write s good i;
     rank = λ v. back-rank v i;
     mate = λ v. back-mate v i;

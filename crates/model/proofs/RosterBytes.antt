@@ -5,7 +5,7 @@ use lib.ListN.{drop, replicate}
 use Rattle.model.specs.Counting.{sum, eachOnto, each}
 use Rattle.model.specs.Shape.{low, rostersFrom}
 use Rattle.model.specs.Parts.{num, rowByte, bytesOf}
-use Rattle.model.specs.State.{base, lowKind, empty}
+use Rattle.model.specs.State.{rules, lowKind, empty}
 use Rattle.model.specs.Bytes.{roster, image, fieldsOf, write}
 use Rattle.model.specs.Record.{after}
 use Rattle.model.proofs.Table.{built, computed}
@@ -18,7 +18,7 @@ unfolding write fieldsOf empty image bytesOf each eachOnto num rowByte roster su
 fresh-rosters = refl
 
 -- The last rack of the worked example, where 2 and 3 are paired at level 0, and the others idle.
-pub example-rosters : drop (rostersFrom low) (write (after base (empty lowKind 4) (example .changes))) ≡ 3 ∷ (replicate 31 0 ++ (12 ∷ replicate 127 0))
+pub example-rosters : drop (rostersFrom low) (write (after (rules lowKind) (empty lowKind 4) (example .changes))) ≡ 3 ∷ (replicate 31 0 ++ (12 ∷ replicate 127 0))
 unfolding example zeros write fieldsOf image bytesOf num rowByte roster computed
 example-rosters = refl
 

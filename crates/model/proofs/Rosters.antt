@@ -9,8 +9,7 @@ use lib.Dec.{T, eqb, eqb→eq}
 use lib.IntN.{ℤ, pos, negsuc, predℤ}
 use Rattle.model.specs.Counting.{count}
 use Rattle.model.specs.Shape.{Shape}
-use Rattle.model.specs.State.{Rules}
-use Rattle.model.specs.Bytes.{sizeAt, rankAt, rosterAt}
+use Rattle.model.specs.Bytes.{sizeAt, topAt, rankAt, rosterAt}
 use Rattle.model.specs.Calls.{atLevel}
 use Rattle.model.proofs.Tests.{true-T, eqb-yes}
 use Rattle.model.proofs.Counting.{count-none}
@@ -32,21 +31,21 @@ no-other (negsuc (suc j)) r t = absurd t
 pub at-level : (level : ℤ) (r : ℕ) → T (atLevel level r) ↔ (level ≡ predℤ (pos r))
 at-level level r = (no-other level r, λ e. subst (λ (l : ℤ). T (atLevel l r)) (sym e) (own-level r))
 
--- "0 for a level outside -1 to 3": above the top, or below -1
-abbrev pub Outside : Rules → ℤ → Type 0
-Outside R (pos j) = R .top < j
-Outside R (negsuc zero) = ⊥
-Outside R (negsuc (suc j)) = Unit
+-- "0 for a level outside -1 to 3": with no board above the top, and none below -1
+abbrev pub Outside : ℕ → ℤ → Type 0
+Outside top (pos j) = top < j
+Outside top (negsuc zero) = ⊥
+Outside top (negsuc (suc j)) = Unit
 
-module _ {R : Rules} {S : Shape} {bs : List ℕ} (f : Facts R S bs) where
-  no-rank : (level : ℤ) → Outside R level → (v : ℕ) → v < sizeAt bs → T (atLevel level (rankAt bs v)) → ⊥
+module _ {S : Shape} {bs : List ℕ} (f : Facts S bs) where
+  no-rank : (level : ℤ) → Outside (topAt bs) level → (v : ℕ) → v < sizeAt bs → T (atLevel level (rankAt bs v)) → ⊥
   unfolding atLevel
   no-rank (pos j) out v l t = omega (arith, eqb→eq (rankAt bs v) (suc j) t, f .ranks v l)
   no-rank (negsuc zero) out v l t = out
   no-rank (negsuc (suc j)) out v l t = t
 
   -- no board stands there
-  pub outside-none : (level : ℤ) → Outside R level → count (λ v. atLevel level (rankAt bs v)) (sizeAt bs) ≡ 0
+  pub outside-none : (level : ℤ) → Outside (topAt bs) level → count (λ v. atLevel level (rankAt bs v)) (sizeAt bs) ≡ 0
   outside-none level out = count-none (λ v. atLevel level (rankAt bs v)) (sizeAt bs) (no-rank level out)
 
   -- a roster has as many bits as there are boards of its rank

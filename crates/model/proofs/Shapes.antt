@@ -3,15 +3,16 @@
 use mathlib.Core.Path.{_≡_, refl}
 use mathlib.Core.Bool.{_&&_}
 use mathlib.Core.List.{[], _∷_}
-use Prim.Native.Nat.{suc, _+_, _*_, _%_, _<_}
+use Prim.Native.Nat.{ℕ, suc, _+_, _*_, _%_, _≤_, _<_}
+use native.Mathlib.Nat.{one-le-pow, pow-zero}
 use native.Mathlib.Omega.{arith}
 use lib.Dec.{eqb}
 use lib.ListN.{take, drop}
 use Rattle.model.specs.Counting.{sum, eachOnto, each}
 use Rattle.model.specs.Parts.{numAt, num, rowByte, bytesOf}
 use Rattle.model.specs.Shape.{Shape, GoodShape, low, matesFrom, phisFrom, rowsFrom, rostersFrom, rackLength}
-use Rattle.model.specs.State.{base}
-use Rattle.model.specs.Bytes.{edgesAt, mateAt, phiAt, Fields, roster, image}
+use Rattle.model.specs.State.{Kind, rules, GoodKind, lowWith, leastGrowth, mostGrowth}
+use Rattle.model.specs.Bytes.{edgesAt, mateAt, phiAt, Fields, roster, upToTop, image}
 
 pub low-good : GoodShape low
 low-good = record {
@@ -28,16 +29,16 @@ low-good = record {
   figures = omega arith;
 }
 
--- Every level of the rules has its count, and there is no other: what is asked where all counts of a vertex are gone through.
-abbrev pub Full : Shape → Type 0
-Full S = S .levels ≡ suc (base .top)
+-- and so has its kind with any settings in their ranges
+pub low-kind : (growth top : ℕ) → leastGrowth ≤ growth → growth ≤ mostGrowth → top < low .levels → GoodKind (lowWith growth top)
+low-kind growth top a b c = record { shape = low-good; range = record { least = a; most = b; room = c } }
 
-pub low-full : Full low
-unfolding base
-low-full = refl
+-- every threshold of a good kind is at least 1, and that of level 0 is 1
+pub thr-pos : {K : Kind} → GoodKind K → (j : ℕ) → 1 ≤ rules K .thr j
+thr-pos {K} good j = one-le-pow j (K .growth) (omega (arith, good .range .least))
 
-pub low-room : base .top < low .levels
-low-room = omega (arith, low-full)
+pub thr-one : (K : Kind) → rules K .thr 0 ≡ 1
+thr-one K = pow-zero (K .growth)
 
 -- "8: one byte a board", "264: two bytes a board", "776: four bytes a board", "1,800: 32 bytes a board"; "at offset 9,992 five rosters", "Its
 -- length becomes 10,152"
@@ -69,7 +70,7 @@ other-good = record {
 unfoldable pub marked : Fields
 unfolding other
 marked = record {
-  kind = record { shape = other };
+  kind = record { shape = other; growth = 5; top = 1 };
   n = 5;
   edges = 70000;
   rank = λ v. v % 3;
@@ -78,14 +79,14 @@ marked = record {
   owns = λ v w. eqb v 2 && eqb w 13;
 }
 
--- n and the number of edges: 70,000 is 4,464, which is 112 and 256 times 17, and 65,536 once
-pub marked-head : take 8 (image marked) ≡ 5 ∷ 0 ∷ 112 ∷ 17 ∷ 0 ∷ 0 ∷ 1 ∷ 0 ∷ []
+-- n, the settings, and the number of edges: 70,000 is 4,464, which is 112 and 256 times 17, and 65,536 once
+pub marked-head : take 8 (image marked) ≡ 5 ∷ 0 ∷ 112 ∷ 17 ∷ 5 ∷ 1 ∷ 1 ∷ 0 ∷ []
 unfolding marked other image bytesOf each eachOnto num
 marked-head = refl
 
--- the counts of vertex 1, two bytes each: 300, 301 and 302
-pub marked-counts : take 6 (drop (phisFrom other + 6) (image marked)) ≡ 44 ∷ 1 ∷ 45 ∷ 1 ∷ 46 ∷ 1 ∷ []
-unfolding marked other image bytesOf each eachOnto num
+-- the counts of vertex 1, two bytes each: 300, 301, and 0 for 302, which is above the top
+pub marked-counts : take 6 (drop (phisFrom other + 6) (image marked)) ≡ 44 ∷ 1 ∷ 45 ∷ 1 ∷ 0 ∷ 0 ∷ []
+unfolding marked other image upToTop bytesOf each eachOnto num
 marked-counts = refl
 
 -- row 2, where bit 5 of the second byte is set, ends as the rows do
@@ -99,6 +100,6 @@ unfolding marked other image bytesOf each eachOnto num rowByte roster sum
 marked-roster = refl
 
 -- and they are read where they were written
-pub marked-read : (edgesAt other (image marked) ≡ 70000) × (mateAt other (image marked) 63 ≡ 1063) × (phiAt other (image marked) 4 2 ≡ 1202)
-unfolding marked other image bytesOf each eachOnto num numAt edgesAt mateAt phiAt
+pub marked-read : (edgesAt other (image marked) ≡ 70000) × (mateAt other (image marked) 63 ≡ 1063) × (phiAt other (image marked) 4 1 ≡ 1201)
+unfolding marked other image upToTop bytesOf each eachOnto num numAt edgesAt mateAt phiAt
 marked-read = (refl, refl, refl)

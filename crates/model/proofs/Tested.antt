@@ -4,19 +4,18 @@ use mathlib.Core.Path.{_≡_, refl, ap, _∙_}
 use mathlib.Core.Logic.{_≢_, inl, inr}
 use mathlib.Core.Bool.{Bool, not, _&&_, _||_, cond}
 use Prim.Native.Nat.{ℕ, suc, _≤_, _<_}
-use native.Mathlib.Nat.{one-le-pow}
 use native.Mathlib.Omega.{arith}
 use lib.Dec.{T, leb, ltb, eqb, leb→le, ltb→lt, eqb→eq, eqb-refl, not-T, T-not}
 use Rattle.model.specs.Counting.{every}
 use Rattle.model.specs.Shape.{low}
-use Rattle.model.specs.State.{Rules, State, lowKind, base, edge, phi}
+use Rattle.model.specs.State.{Rules, rules, leastGrowth, mostGrowth, lowWith, State, edge, phi}
 use Rattle.model.specs.Bytes.{write}
 use Rattle.model.specs.Sound.{sound}
 use Rattle.model.specs.Valid.{Valid}
 use Rattle.model.proofs.Tests.{le?, true-T, eqb-yes, leb-yes, and-left, and-right, or-cases}
 use Rattle.model.proofs.Counting.{every-all}
 use Rattle.model.proofs.Limits.{phi-none}
-use Rattle.model.proofs.Shapes.{low-good}
+use Rattle.model.proofs.Shapes.{low-kind, thr-pos}
 use Rattle.model.proofs.Bridge.{write-sound}
 
 -- if a then b, as a test
@@ -138,10 +137,10 @@ module _ (R : Rules) (pos : (j : ℕ) → 1 ≤ R .thr j) (s : State) (some : 1 
         (λ v l j i. omega (arith, pos j, phi-none s inside v j l));
   }
 
--- A rack that is laid down: ranks, mates and owners of n vertices, whatever is said of others.
-unfoldable pub laid : ℕ → (ℕ → ℕ) → (ℕ → ℕ) → (ℕ → ℕ → Bool) → State
-laid n rank mate owns = record {
-  kind = lowKind;
+-- A rack that is laid down: its settings, and the ranks, mates and owners of n vertices, whatever is said of others.
+unfoldable pub laid : ℕ → ℕ → ℕ → (ℕ → ℕ) → (ℕ → ℕ) → (ℕ → ℕ → Bool) → State
+laid growth top n rank mate owns = record {
+  kind = lowWith growth top;
   n = n;
   rank = λ v. cond (leb n v) 0 (rank v);
   mate = λ v. cond (leb n v) v (mate v);
@@ -149,11 +148,12 @@ laid n rank mate owns = record {
 }
 
 -- It is sound, by a test of its vertices: a valid rack, and so are its bytes.
-pub laid-sound : (n : ℕ) (rank mate : ℕ → ℕ) (owns : ℕ → ℕ → Bool) → 1 ≤ n → n ≤ low .most → T (tested base (laid n rank mate owns))
-    → T (sound base low (write (laid n rank mate owns)))
-unfolding laid base
-laid-sound n rank mate owns some few h =
-    write-sound base (laid n rank mate owns) low-good (omega arith)
-    (tested-valid base (λ j. one-le-pow j 4 (omega arith)) (laid n rank mate owns) some few
+pub laid-sound : (growth top n : ℕ) (rank mate : ℕ → ℕ) (owns : ℕ → ℕ → Bool) → leastGrowth ≤ growth → growth ≤ mostGrowth → top < low .levels → 1 ≤ n
+    → n ≤ low .most → T (tested (rules (lowWith growth top)) (laid growth top n rank mate owns)) → T (sound low (write (laid growth top n rank mate owns)))
+unfolding laid
+laid-sound growth top n rank mate owns a b c some few h =
+    let kind = low-kind growth top a b c in
+    write-sound (laid growth top n rank mate owns) kind
+    (tested-valid (rules (lowWith growth top)) (thr-pos kind) (laid growth top n rank mate owns) some few
     (λ v w t. (ltb→lt v n (and-left (ltb v n) _ t), ltb→lt w n (and-left (ltb w n) _ (and-right (ltb v n) _ t))))
     (λ v l. rw (leb-yes n v l) refl) (λ v l. rw (leb-yes n v l) refl) h)

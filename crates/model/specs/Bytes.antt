@@ -1,12 +1,12 @@
--- Document 01, "Rack bytes", with the rosters of W-205: how a rack of a given shape lies in its bytes, and what bytes say of a rack. The
+-- Document 01, "Rack bytes", with the rosters of W-205 and the settings of W-207: how a rack of a given shape lies in its bytes, and what bytes say of a rack. The
 -- offsets that the papers name are those of the shape `low`. Assumes nothing.
 use mathlib.Core.Bool.{Bool, true, false, _&&_}
 use mathlib.Core.List.{List, [], _∷_}
-use Prim.Native.Nat.{ℕ, suc, _+_, _-_, _*_, _/_, _%_}
-use lib.Dec.{ltb, eqb}
+use Prim.Native.Nat.{ℕ, suc, _+_, _-_, _*_, _/_, _%_, _^_}
+use lib.Dec.{leb, ltb, eqb}
 use lib.ListN.{getD}
 use Rattle.model.specs.Shape.{Shape, ranksFrom, matesFrom, phisFrom, rowsFrom, rostersFrom}
-use Rattle.model.specs.State.{Kind, State, phi, edges}
+use Rattle.model.specs.State.{Rules, Kind, State, phi, edges}
 use Rattle.model.specs.Parts.{numAt, bitOf, rowByte, Part, numbers, byRows, bytesOf}
 
 -- "65,535 if idle"
@@ -25,6 +25,20 @@ sizeAt bs = numAt 2 bs 0
 -- "2: number of links, two bytes.", and what of the bytes 6 and 7 is not spare
 unfoldable pub edgesAt : Shape → List ℕ → ℕ
 edgesAt S bs = numAt 2 bs 2 + half * numAt (2 - S .spare) bs (6 + S .spare)
+
+-- W-207: "kept in bytes 4 (g) and 5 (t)"
+unfoldable pub growthAt : List ℕ → ℕ
+growthAt bs = getD bs 4 0
+
+unfoldable pub topAt : List ℕ → ℕ
+topAt bs = getD bs 5 0
+
+-- the kind of the rack that bytes of a given shape hold, and its rules
+abbrev pub kindAt : Shape → List ℕ → Kind
+kindAt S bs = record { shape = S; growth = growthAt bs; top = topAt bs }
+
+abbrev pub rulesAt : List ℕ → Rules
+rulesAt bs = record { top = topAt bs; thr = λ j. growthAt bs ^ j }
 
 -- "8: one byte a board, level plus 1."
 unfoldable pub rankAt : List ℕ → ℕ → ℕ
@@ -57,7 +71,7 @@ named v m = elim (eqb m noMate) [ true ↦ v | false ↦ m ]
 -- The rack that bytes hold: the entries of its n vertices. What stands in the entries from n on is no part of it.
 unfoldable pub read : Shape → List ℕ → State
 read S bs = let n = sizeAt bs in record {
-  kind = record { shape = S };
+  kind = kindAt S bs;
   n = n;
   rank = λ v. elim (ltb v n) [ true ↦ rankAt bs v | false ↦ 0 ];
   mate = λ v. elim (ltb v n) [ true ↦ named v (mateAt S bs v) | false ↦ v ];
@@ -80,17 +94,23 @@ pub record Fields : Type 0 where
 unfoldable pub roster : Fields → ℕ → ℕ → Bool
 roster f r v = ltb v (f .n) && eqb (f .rank v) r
 
--- the fields, one after the other, "4 to 7: zero"; the rosters are computed
+-- W-207: "counts above t are 0": the counts as they are written
+unfoldable pub upToTop : ℕ → (ℕ → ℕ → ℕ) → ℕ → ℕ → ℕ
+upToTop top counts v j = elim (leb j top) [ true ↦ counts v j | false ↦ 0 ]
+
+-- the fields, one after the other; of the bytes 6 and 7, "zero", those that are spare; the rosters are computed
 abbrev pub parts : Fields → List Part
 parts f =
     let S = f .kind .shape in
     numbers 1 2 (λ i. f .n)
     ∷ numbers 1 2 (λ i. f .edges % half)
-    ∷ numbers (2 + S .spare) 1 (λ i. 0)
+    ∷ numbers 1 1 (λ i. f .kind .growth)
+    ∷ numbers 1 1 (λ i. f .kind .top)
+    ∷ numbers (S .spare) 1 (λ i. 0)
     ∷ numbers 1 (2 - S .spare) (λ i. f .edges / half)
     ∷ numbers (S .most) 1 (f .rank)
     ∷ numbers (S .most) 2 (f .mate)
-    ∷ numbers (S .most * S .levels) (S .width) (byRows (S .levels) (f .phi))
+    ∷ numbers (S .most * S .levels) (S .width) (byRows (S .levels) (upToTop (f .kind .top) (f .phi)))
     ∷ numbers (S .most * S .row) 1 (byRows (S .row) (λ v. rowByte (f .owns v)))
     ∷ numbers (suc (S .levels) * S .row) 1 (byRows (S .row) (λ r. rowByte (roster f r)))
     ∷ []
@@ -101,6 +121,10 @@ image f = bytesOf (parts f)
 -- the entry for v's mate
 unfoldable pub mateEntry : State → ℕ → ℕ
 mateEntry s v = elim (eqb (s .mate v) v) [ true ↦ noMate | false ↦ s .mate v ]
+
+-- the entry for v's count at j
+abbrev pub phiEntry : State → ℕ → ℕ → ℕ
+phiEntry s = upToTop (s .kind .top) (phi s)
 
 -- A rack, written. The number of edges, the counts and the rosters are computed: "Counts always agree with their definition after a move."
 -- "Entries of boards n to 255 are level byte 0, mate 65,535, counts 0, empty row, and no row names them."

@@ -6,10 +6,10 @@ use mathlib.Core.List.{List, [], _∷_, _++_}
 use Prim.Native.Nat.{ℕ, _+_, _-_, _*_, _/_, _%_, _<_}
 use lib.Dec.{eqb, ltb}
 use Rattle.model.specs.Counting.{listed}
-use Rattle.model.specs.State.{Rules, State, lowKind, edges, pairs, empty}
+use Rattle.model.specs.State.{Rules, Kind, rules, lowWith, State, edges, pairs, empty}
 use Rattle.model.specs.Change.{Change, Answer, change}
 use Rattle.model.specs.Text.{bytes, decimal, texts}
-use Rattle.model.specs.Trace.{Trace, rackLine}
+use Rattle.model.specs.Trace.{Trace, growthOf, topOf, rackLine}
 
 -- "`(done (draws D) (falls F) (pairs P))` with its figures"; "A refused change (8 to 12) gives its number K as `(refused K)`"
 unfoldable pub answerLine : Answer → List ℕ
@@ -60,9 +60,20 @@ unfoldable pub changesText : Rules → State → List Change → List ℕ
 changesText R s [] = pairLines s ++ endLine s
 changesText R s (c ∷ cs) = let d = change R s c in answerLine (d .answer) ++ changesText R (d .state) cs
 
+-- the kind of the rack that line 1 asks for, and that rack
+unfoldable pub kindOf : Trace → Kind
+kindOf t = lowWith (growthOf (t .settings)) (topOf (t .settings))
+
+abbrev pub rackOf : Trace → State
+rackOf t = empty (kindOf t) (t .n)
+
+-- the rack after the changes of a trace
+abbrev pub lastOf : Trace → State
+lastOf t = after (rules (kindOf t)) (rackOf t) (t .changes)
+
 -- "The record repeats line 1, has one line for each change, then the pairs by rising lower board, then the end line"
-unfoldable pub recordText : Rules → Trace → List ℕ
-recordText R t = rackLine (t .n) ++ changesText R (empty lowKind (t .n)) (t .changes)
+unfoldable pub recordText : Trace → List ℕ
+recordText t = rackLine (t .n) (t .settings) ++ changesText (rules (kindOf t)) (rackOf t) (t .changes)
 
 -- W-201: "A trace text of no bytes now means that no rack was set: the record is the one line `(end (pairs 0))`"; W-202: "the blank paper has
 -- no mean", since there is no rack whose links it could be of

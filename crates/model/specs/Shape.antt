@@ -40,7 +40,7 @@ rostersFrom S = rowsFrom S + S .most * S .row
 abbrev pub rackLength : Shape → ℕ
 rackLength S = rostersFrom S + suc (S .levels) * S .row
 
--- What is asked of a shape. Everything that is shown of a rack is shown for any shape that has it.
+-- What is asked of a shape.
 pub record GoodShape (S : Shape) : Type 0 where
   -- a row has a bit for each vertex, and no other
   pub some : 1 ≤ S .row

@@ -1,27 +1,57 @@
 -- Document 01, "Words of the rack": what a rack holds, free of its bytes. A board is a vertex, a link an edge, an idle vertex is free,
 -- a waiting one is pending. Assumes nothing.
 use mathlib.Core.Bool.{Bool, true, false, _&&_, _||_}
-use Prim.Native.Nat.{ℕ, suc, _^_}
+use Prim.Native.Nat.{ℕ, suc, _^_, _≤_, _<_}
 use lib.Dec.{leb, ltb, eqb}
 use Rattle.model.specs.Counting.{sum, count}
-use Rattle.model.specs.Shape.{Shape, low}
+use Rattle.model.specs.Shape.{Shape, GoodShape, low}
 
--- what is fixed for every rack: the highest level, and the threshold of each level
+-- what the moves ask of a rack's settings: the highest level, and the threshold of each level
 pub record Rules : Type 0 where
   pub top : ℕ
   pub thr : ℕ → ℕ
 
--- "Each board has a level from -1 to 3"; "The thresholds for levels 0, 1, 2, 3 are 1, 4, 16 and 64, that is 4^j."
-unfoldable pub base : Rules
-base = record { top = 3; thr = λ j. 4 ^ j }
-
--- What no change of a rack alters, beside n: its shape.
+-- What no change of a rack alters, beside n: its shape, and its settings. W-207: "A rack is made with growth g [..] and top level t"
 pub record Kind : Type 0 where
   pub shape : Shape
+  pub growth : ℕ
+  pub top : ℕ
 
--- the kind of document 01
+-- "The threshold at j is g to the power j, levels stop at t"
+abbrev pub rules : Kind → Rules
+rules K = record { top = K .top; thr = λ j. K .growth ^ j }
+
+-- "growth g from 2 to 8"
+abbrev pub leastGrowth : ℕ
+leastGrowth = 2
+
+abbrev pub mostGrowth : ℕ
+mostGrowth = 8
+
+-- settings in their ranges: "growth g from 2 to 8 and top level t from 0 to 3", a level that the shape has counts for
+pub record InRange (K : Kind) : Type 0 where
+  pub least : leastGrowth ≤ K .growth
+  pub most : K .growth ≤ mostGrowth
+  pub room : K .top < K .shape .levels
+
+-- What is asked of a kind. Everything that is shown of a rack is shown for any kind that has it.
+pub record GoodKind (K : Kind) : Type 0 where
+  pub shape : GoodShape (K .shape)
+  pub range : InRange K
+
+-- the kind of document 01's rack with these settings
+abbrev pub lowWith : ℕ → ℕ → Kind
+lowWith growth top = record { shape = low; growth = growth; top = top }
+
+-- "the short line means 4 and 3", "The short form of making gives 4 and 3 also"
+abbrev pub shortGrowth : ℕ
+shortGrowth = 4
+
+abbrev pub shortTop : ℕ
+shortTop = 3
+
 abbrev pub lowKind : Kind
-lowKind = record { shape = low }
+lowKind = lowWith shortGrowth shortTop
 
 -- A rack: its n vertices are the numbers below n. The rank of a vertex is its level plus 1, so that a level below j is a rank of at
 -- most j. "Each board has [..] at most one mate; without one it is idle": a free vertex is its own mate here.

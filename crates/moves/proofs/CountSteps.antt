@@ -7,7 +7,7 @@ use Prim.Native.Nat.{ℕ, zero, suc, _+_, _-_, _≤_, _<_}
 use native.Mathlib.Numerals.{add-one}
 use native.Mathlib.Omega.{arith}
 use Rattle.model.specs.Shape.{Shape, GoodShape}
-use Rattle.model.specs.State.{State}
+use Rattle.model.specs.State.{Kind, State}
 use Rattle.model.specs.Bytes.{Fields, phiAt, image, fieldsOf}
 use Rattle.model.proofs.Fields.{phi-image}
 use Rattle.layout.specs.Setters.{setPhi}
@@ -73,46 +73,47 @@ counts-ext F good g e =
     })
 
 -- g is the counts of F, but for y at the level j of w
-pub setCount-image : (F : Fields) → GoodShape (F .kind .shape) → (w j y : ℕ) (g : ℕ → ℕ → ℕ) → w < F .kind .shape .most → j < F .kind .shape .levels
-    → g w j ≡ y → ((v x : ℕ) → (v ≡ w → x ≢ j) → g v x ≡ F .phi v x) → setPhi (F .kind .shape) (image F) w j y ≡ image (withCounts F g)
+pub setCount-image : (F : Fields) → GoodShape (F .kind .shape) → F .kind .top < F .kind .shape .levels → (w j y : ℕ) (g : ℕ → ℕ → ℕ) → w < F .kind .shape .most
+    → j ≤ F .kind .top → g w j ≡ y → ((v x : ℕ) → (v ≡ w → x ≢ j) → g v x ≡ F .phi v x)
+    → setPhi (F .kind .shape) (image F) w j y ≡ image (withCounts F g)
 unfolding withPhi withCounts
-setCount-image F good w j y g l b on off =
-    setPhi-image F good w j y l b ∙ counts-ext (withPhi F w j y) good g (λ v x. entry-is (F .phi) w j y g v x on (off v x))
+setCount-image F good room w j y g l b on off =
+    setPhi-image F good w j y l (omega arith) b ∙ counts-ext (withPhi F w j y) good g (λ v x. entry-is (F .phi) w j y g v x on (off v x))
 
 -- g is the counts of F, but for those that f makes at the levels of w from j up to j + k
-pub recounted-image : (f : ℕ → ℕ) (F : Fields) → GoodShape (F .kind .shape) → (w j k : ℕ) (g : ℕ → ℕ → ℕ) → w < F .kind .shape .most
-    → j + k ≤ F .kind .shape .levels → ((x : ℕ) → j ≤ x → x < j + k → g w x ≡ f (F .phi w x))
+pub recounted-image : (f : ℕ → ℕ) (F : Fields) → GoodShape (F .kind .shape) → F .kind .top < F .kind .shape .levels → (w j k : ℕ) (g : ℕ → ℕ → ℕ)
+    → w < F .kind .shape .most → j + k ≤ suc (F .kind .top) → ((x : ℕ) → j ≤ x → x < j + k → g w x ≡ f (F .phi w x))
     → ((v x : ℕ) → (v ≡ w → j ≤ x → x < j + k → ⊥) → g v x ≡ F .phi v x) → recounted (F .kind .shape) f (image F) w j k ≡ image (withCounts F g)
 unfolding recounted withPhi withCounts
-recounted-image f F good w j zero g l b on off = counts-ext F good g (λ v x. off v x (λ e p q. omega arith))
-recounted-image f F good w j (suc k) g l b on off =
+recounted-image f F good room w j zero g l b on off = counts-ext F good g (λ v x. off v x (λ e p q. omega arith))
+recounted-image f F good room w j (suc k) g l b on off =
     let S : Shape = F .kind .shape in
     let y : ℕ = f (F .phi w j) in
     let first : setPhi S (image F) w j (f (phiAt S (image F) w j)) ≡ image (withPhi F w j y) =
-    ap (λ (z : ℕ). setPhi S (image F) w j (f z)) (phi-image F good w j l (omega arith)) ∙ setPhi-image F good w j y l (omega arith) in
+    ap (λ (z : ℕ). setPhi S (image F) w j (f z)) (phi-image F good w j l (omega arith) (omega arith)) ∙ setPhi-image F good w j y l (omega arith) (omega arith) in
     ap (λ (bs : List ℕ). recounted S f bs w (suc j) k) first
-    ∙ recounted-image f (withPhi F w j y) good w (suc j) k g l (omega arith)
+    ∙ recounted-image f (withPhi F w j y) good room w (suc j) k g l (omega arith)
     (λ x p q. on x (omega arith) (omega arith) ∙ ap f (sym (entry-other (F .phi) w j y w x (λ e. omega arith))))
     (λ v x d. entry-is (F .phi) w j y g v x (on j (omega arith) (omega arith))
     (λ c. off v x (λ e p q. d e (omega (arith, c e)) (omega arith))))
 
 -- ---- on the bytes of a proper state, but for the counts
 
-module _ {S : Shape} (s : State) (p : Proper S s) (c : ℕ → ℕ → ℕ) where
-  pub setCount-proper : (w j y : ℕ) (g : ℕ → ℕ → ℕ) → w < S .most → j < S .levels → g w j ≡ y
+module _ {K : Kind} (s : State) (p : Proper K s) (c : ℕ → ℕ → ℕ) where
+  pub setCount-proper : (w j y : ℕ) (g : ℕ → ℕ → ℕ) → w < K .shape .most → j ≤ K .top → g w j ≡ y
       → ((v x : ℕ) → (v ≡ w → x ≢ j) → g v x ≡ c v x)
-      → setPhi S (image (withCounts (fieldsOf s) c)) w j y ≡ image (withCounts (fieldsOf s) g)
+      → setPhi (K .shape) (image (withCounts (fieldsOf s) c)) w j y ≡ image (withCounts (fieldsOf s) g)
   unfolding withCounts fieldsOf
   setCount-proper w j y g l b on off =
       let F : Fields = withCounts (fieldsOf s) c in
-      subst (λ (T : Shape). w < T .most → j < T .levels → setPhi T (image F) w j y ≡ image (withCounts F g)) (p .shape)
-      (λ l b. setCount-image F (p .good) w j y g l b on off) l b
+      subst (λ (L : Kind). w < L .shape .most → j ≤ L .top → setPhi (L .shape) (image F) w j y ≡ image (withCounts F g)) (p .kind)
+      (λ l b. setCount-image F (p .good) (p .range .room) w j y g l b on off) l b
 
-  pub recounted-proper : (f : ℕ → ℕ) (w j k : ℕ) (g : ℕ → ℕ → ℕ) → w < S .most → j + k ≤ S .levels
+  pub recounted-proper : (f : ℕ → ℕ) (w j k : ℕ) (g : ℕ → ℕ → ℕ) → w < K .shape .most → j + k ≤ suc (K .top)
       → ((x : ℕ) → j ≤ x → x < j + k → g w x ≡ f (c w x)) → ((v x : ℕ) → (v ≡ w → j ≤ x → x < j + k → ⊥) → g v x ≡ c v x)
-      → recounted S f (image (withCounts (fieldsOf s) c)) w j k ≡ image (withCounts (fieldsOf s) g)
+      → recounted (K .shape) f (image (withCounts (fieldsOf s) c)) w j k ≡ image (withCounts (fieldsOf s) g)
   unfolding withCounts fieldsOf
   recounted-proper f w j k g l b on off =
       let F : Fields = withCounts (fieldsOf s) c in
-      subst (λ (T : Shape). w < T .most → j + k ≤ T .levels → recounted T f (image F) w j k ≡ image (withCounts F g)) (p .shape)
-      (λ l b. recounted-image f F (p .good) w j k g l b on off) l b
+      subst (λ (L : Kind). w < L .shape .most → j + k ≤ suc (L .top) → recounted (L .shape) f (image F) w j k ≡ image (withCounts F g)) (p .kind)
+      (λ l b. recounted-image f F (p .good) (p .range .room) w j k g l b on off) l b

@@ -9,7 +9,7 @@ use lib.Dec.{T, leb, leb→le}
 use lib.ListN.{length}
 use Rattle.model.specs.Counting.{upd}
 use Rattle.model.specs.Shape.{Shape, rackLength}
-use Rattle.model.specs.State.{base, State, edge, near, phi}
+use Rattle.model.specs.State.{Kind, State, edge, near, phi}
 use Rattle.model.specs.Bytes.{rankAt, phiAt, ownsAt, image, fieldsOf, read, write}
 use Rattle.model.proofs.Tests.{eq?, le?, and-right}
 use Rattle.model.proofs.Lists.{upd-same, upd-other}
@@ -22,7 +22,7 @@ use Rattle.layout.proofs.Said.{says-yes, says-no, says-by}
 use Rattle.layout.proofs.Walks.{row-whole, further-same}
 use Rattle.moves.specs.Proper.{Proper, Held, RowBelow}
 use Rattle.moves.specs.Counts.{withCounts, step, recounted, loweredCounts, raisedCounts}
-use Rattle.moves.proofs.Held.{proper-few, held-good, held-sized, held-small, held-owns}
+use Rattle.moves.proofs.Held.{proper-shape, proper-few, held-good, held-sized, held-small, held-owns}
 use Rattle.layout.proofs.Reached.{reached, reached-here, reached-end, Came, came, stands-as, further-as}
 use Rattle.moves.proofs.Choices.{hit-says, hit-of, lowered-yes, lowered-no, raised-yes, raised-no}
 use Rattle.moves.proofs.CountSteps.{counts-ext, setCount-proper, recounted-proper}
@@ -36,29 +36,29 @@ pub counted-write : (s : State) (bs : List ℕ) → bs ≡ write s → Counted s
 unfolding write fieldsOf withCounts
 counted-write s bs e = e
 
-module _ {S : Shape} (s : State) (p : Proper S s) (g : ℕ → ℕ → ℕ) (bs : List ℕ) (e : Counted s g bs) where
-  pub counted-sized : Sized S bs
+module _ {K : Kind} (s : State) (p : Proper K s) (g : ℕ → ℕ → ℕ) (bs : List ℕ) (e : Counted s g bs) where
+  pub counted-sized : Sized (K .shape) bs
   unfolding withCounts fieldsOf
-  counted-sized = ap length e ∙ image-length (withCounts (fieldsOf s) g) (p .good) ∙ ap (λ (T : Shape). rackLength T) (p .shape)
+  counted-sized = ap length e ∙ image-length (withCounts (fieldsOf s) g) (p .good) ∙ ap (λ (T : Shape). rackLength T) (proper-shape p)
 
-  pub counted-rank : (v : ℕ) → v < S .most → rankAt bs v ≡ s .rank v
+  pub counted-rank : (v : ℕ) → v < K .shape .most → rankAt bs v ≡ s .rank v
   unfolding withCounts fieldsOf
   counted-rank v l =
       ap (λ (x : List ℕ). rankAt x v) e
-      ∙ rank-image (withCounts (fieldsOf s) g) (p .good) v (omega (arith, ap (λ (T : Shape). T .most) (p .shape)))
+      ∙ rank-image (withCounts (fieldsOf s) g) (p .good) v (omega (arith, ap (λ (T : Shape). T .most) (proper-shape p)))
 
-  pub counted-phi : (v j : ℕ) → v < S .most → j < S .levels → phiAt S bs v j ≡ g v j
+  pub counted-phi : (v j : ℕ) → v < K .shape .most → j ≤ K .top → phiAt (K .shape) bs v j ≡ g v j
   unfolding withCounts fieldsOf
   counted-phi v j l k =
-      ap (λ (x : List ℕ). phiAt S x v j) e
-      ∙ subst (λ (T : Shape). v < T .most → j < T .levels → phiAt T (image (withCounts (fieldsOf s) g)) v j ≡ g v j) (p .shape)
-      (phi-image (withCounts (fieldsOf s) g) (p .good) v j) l k
+      ap (λ (x : List ℕ). phiAt (K .shape) x v j) e
+      ∙ subst (λ (L : Kind). v < L .shape .most → j ≤ L .top → phiAt (L .shape) (image (withCounts (fieldsOf s) g)) v j ≡ g v j) (p .kind)
+      (λ l k. phi-image (withCounts (fieldsOf s) g) (p .good) v j l (omega (arith, p .range .room)) k) l k
 
-  pub counted-owns : (v w : ℕ) → v < S .most → w < S .most → ownsAt S bs v w ≡ s .owns v w
+  pub counted-owns : (v w : ℕ) → v < K .shape .most → w < K .shape .most → ownsAt (K .shape) bs v w ≡ s .owns v w
   unfolding withCounts fieldsOf
   counted-owns v w l k =
-      ap (λ (x : List ℕ). ownsAt S x v w) e
-      ∙ subst (λ (T : Shape). v < T .most → w < T .most → ownsAt T (image (withCounts (fieldsOf s) g)) v w ≡ s .owns v w) (p .shape)
+      ap (λ (x : List ℕ). ownsAt (K .shape) x v w) e
+      ∙ subst (λ (T : Shape). v < T .most → w < T .most → ownsAt T (image (withCounts (fieldsOf s) g)) v w ≡ s .owns v w) (proper-shape p)
       (owns-image (withCounts (fieldsOf s) g) (p .good) v w) l k
 
 -- ---- the walk
@@ -75,8 +75,8 @@ pub record RowCounted (S : Shape) (s : State) (new : ℕ → ℕ → ℕ) (u : �
 abbrev pub Quiet : State → (ℕ → ℕ → ℕ) → ℕ → Type 0
 Quiet s new u = (x j : ℕ) → (T (s .owns u x) → ⊥) → new x j ≡ phi s x j
 
-module _ {S : Shape} (s : State) (p : Proper S s) (new : ℕ → ℕ → ℕ) (u : ℕ) (quiet : Quiet s new u) where
-  pub walk-start : (bs : List ℕ) (r : Cursor) → bs ≡ write s → Came (S .most) (s .owns u) 0 r → RowCounted S s new u bs r
+module _ {K : Kind} (s : State) (p : Proper K s) (new : ℕ → ℕ → ℕ) (u : ℕ) (quiet : Quiet s new u) where
+  pub walk-start : (bs : List ℕ) (r : Cursor) → bs ≡ write s → Came (K .shape .most) (s .owns u) 0 r → RowCounted (K .shape) s new u bs r
   walk-start bs r e n =
       record {
         counts = phi s;
@@ -87,8 +87,8 @@ module _ {S : Shape} (s : State) (p : Proper S s) (new : ℕ → ℕ → ℕ) (u
       }
 
   -- one vertex more, and on to the next
-  pub walk-step : (bs : List ℕ) (c : Cursor) (k : RowCounted S s new u bs c) (w : ℕ) → w ≡ reached (S .most) c → (next : List ℕ) (r : Cursor)
-      → Counted s (upd (k .counts) w (new w)) next → Came (S .most) (s .owns u) (suc w) r → RowCounted S s new u next r
+  pub walk-step : (bs : List ℕ) (c : Cursor) (k : RowCounted (K .shape) s new u bs c) (w : ℕ) → w ≡ reached (K .shape .most) c → (next : List ℕ) (r : Cursor)
+      → Counted s (upd (k .counts) w (new w)) next → Came (K .shape .most) (s .owns u) (suc w) r → RowCounted (K .shape) s new u next r
   walk-step bs c k w at next r e n =
       let other : (x j : ℕ) → x ≢ w → upd (k .counts) w (new w) x j ≡ k .counts x j =
       λ x j d. ap (λ (f : ℕ → ℕ). f j) (upd-other (k .counts) w (new w) x d) in
@@ -107,11 +107,11 @@ module _ {S : Shape} (s : State) (p : Proper S s) (new : ℕ → ℕ → ℕ) (u
       }
 
   -- the row is walked
-  pub walk-end : (bs : List ℕ) (c : Cursor) → c .rest ≡ 0 → RowCounted S s new u bs c → Counted s new bs
+  pub walk-end : (bs : List ℕ) (c : Cursor) → c .rest ≡ 0 → RowCounted (K .shape) s new u bs c → Counted s new bs
   unfolding withCounts fieldsOf
   walk-end bs c z k =
-      k .is ∙ counts-ext (withCounts (fieldsOf s) (k .counts)) (p .good) new (λ x j. elim (le? (reached (S .most) c) x) [
-        | inl b ↦ quiet x j (λ t. omega (arith, reached-end (S .most) c z, proper-few p, p .inside u x t .1)) ∙ sym (k .left x j b)
+      k .is ∙ counts-ext (withCounts (fieldsOf s) (k .counts)) (p .good) new (λ x j. elim (le? (reached (K .shape .most) c) x) [
+        | inl b ↦ quiet x j (λ t. omega (arith, reached-end (K .shape .most) c z, proper-few p, p .inside u x t .1)) ∙ sym (k .left x j b)
         | inr b ↦ sym (k .done x j b)
       ])
 
@@ -182,49 +182,49 @@ row-kept f w row x j d = elim (eq? x w) [
 pub raised-quiet : (s : State) (i v : ℕ) → Quiet s (raisedCounts s i v) v
 raised-quiet s i v x j d = raised-no s i v x j (λ t. absurd (d t))
 
-module _ {S : Shape} (s : State) (p : Proper S s) (i v : ℕ) (bs : List ℕ) (c : Cursor) (k : RowCounted S s (raisedCounts s i v) v bs c) where
+module _ {K : Kind} (s : State) (p : Proper K s) (i v : ℕ) (bs : List ℕ) (c : Cursor) (k : RowCounted (K .shape) s (raisedCounts s i v) v bs c) where
   -- the count that comes next, raised
-  pub raised-is : (w : ℕ) (y : ℕ) → w ≡ reached (S .most) c → w < S .most → i < S .levels → T (s .owns v w) → y ≡ phiAt S bs w i
+  pub raised-is : (w : ℕ) (y : ℕ) → w ≡ reached (K .shape .most) c → w < K .shape .most → i ≤ K .top → T (s .owns v w) → y ≡ phiAt (K .shape) bs w i
       → y + 1 ≡ raisedCounts s i v w i
   raised-is w y at l b t e =
       omega (arith, e, counted-phi s p (k .counts) bs (k .is) w i l b, k .left w i (omega arith), raised-yes s i v w i t refl)
 
   -- one count raised
-  pub raised-turn : (w : ℕ) (next : List ℕ) (y : ℕ) → w ≡ reached (S .most) c → w < S .most → i < S .levels → y + 1 ≡ raisedCounts s i v w i
-      → next ≡ setPhi S bs w i (y + 1) → Counted s (upd (k .counts) w (raisedCounts s i v w)) next
+  pub raised-turn : (w : ℕ) (next : List ℕ) (y : ℕ) → w ≡ reached (K .shape .most) c → w < K .shape .most → i ≤ K .top → y + 1 ≡ raisedCounts s i v w i
+      → next ≡ setPhi (K .shape) bs w i (y + 1) → Counted s (upd (k .counts) w (raisedCounts s i v w)) next
   raised-turn w next y at l b e f =
       let new : ℕ → ℕ = raisedCounts s i v w in
-      f ∙ ap (λ (x : List ℕ). setPhi S x w i (y + 1)) (k .is)
+      f ∙ ap (λ (x : List ℕ). setPhi (K .shape) x w i (y + 1)) (k .is)
       ∙ setCount-proper s p (k .counts) w i (y + 1) (upd (k .counts) w new) l b (row-at (k .counts) w new i ∙ sym e)
       (λ x j d. row-kept (k .counts) w new x j (λ q. raised-no s i v w j (λ _. d q) ∙ sym (k .left w j (omega arith))))
 
 -- the raised counts of the vertices below m to which v owns an edge are below the threshold
-abbrev pub LowTo : State → ℕ → ℕ → ℕ → Type 0
-LowTo s i v m = (w : ℕ) → w < m → T (s .owns v w) → raisedCounts s i v w i < base .thr i
+abbrev pub LowTo : ℕ → State → ℕ → ℕ → ℕ → Type 0
+LowTo bar s i v m = (w : ℕ) → w < m → T (s .owns v w) → raisedCounts s i v w i < bar
 
-module _ {most : ℕ} (s : State) (i v : ℕ) where
-  pub low-start : {r : Cursor} → Came most (s .owns v) 0 r → Says true (LowTo s i v (reached most r))
+module _ {most : ℕ} (bar : ℕ) (s : State) (i v : ℕ) where
+  pub low-start : {r : Cursor} → Came most (s .owns v) 0 r → Says true (LowTo bar s i v (reached most r))
   low-start n = says-yes (λ w l t. absurd (n .none w (omega arith) l t))
 
   -- a vertex more
-  module _ {b : Bool} {r : Cursor} (m w : ℕ) (at : w ≡ m) (said : Says b (LowTo s i v m)) (n : Came most (s .owns v) (suc w) r) where
-    pub low-yes : raisedCounts s i v w i < base .thr i → Says b (LowTo s i v (reached most r))
+  module _ {b : Bool} {r : Cursor} (m w : ℕ) (at : w ≡ m) (said : Says b (LowTo bar s i v m)) (n : Came most (s .owns v) (suc w) r) where
+    pub low-yes : raisedCounts s i v w i < bar → Says b (LowTo bar s i v (reached most r))
     low-yes h =
         says-by
         (λ low x l t. elim (eq? x w) [
-          | inl e ↦ subst (λ (y : ℕ). raisedCounts s i v y i < base .thr i) (sym e) h
+          | inl e ↦ subst (λ (y : ℕ). raisedCounts s i v y i < bar) (sym e) h
           | inr d ↦ elim (le? x w) [ inl p ↦ low x (omega arith) t | inr p ↦ absurd (n .none x p l t) ]
         ])
         (λ low x l t. low x (omega (arith, n .after)) t) said
 
-    pub low-no : T (s .owns v w) → base .thr i ≤ raisedCounts s i v w i → Says false (LowTo s i v (reached most r))
+    pub low-no : T (s .owns v w) → bar ≤ raisedCounts s i v w i → Says false (LowTo bar s i v (reached most r))
     low-no t h = says-no (λ low. omega (arith, low w (n .after) t))
 
 -- the row is walked
-pub low-end : {S : Shape} (s : State) → Proper S s → (i v : ℕ) (c : Cursor) {b : Bool} → c .rest ≡ 0 → Says b (LowTo s i v (reached (S .most) c))
-    → Says b ((w : ℕ) → T (s .owns v w) → raisedCounts s i v w i < base .thr i)
-low-end {S} s p i v c z said =
-    says-by (λ low w t. low w (omega (arith, reached-end (S .most) c z, proper-few p, p .inside v w t .1)) t) (λ low w l t. low w t) said
+pub low-end : {K : Kind} (bar : ℕ) (s : State) → Proper K s → (i v : ℕ) (c : Cursor) {b : Bool} → c .rest ≡ 0 → Says b (LowTo bar s i v (reached (K .shape .most) c))
+    → Says b ((w : ℕ) → T (s .owns v w) → raisedCounts s i v w i < bar)
+low-end {K} bar s p i v c z said =
+    says-by (λ low w t. low w (omega (arith, reached-end (K .shape .most) c z, proper-few p, p .inside v w t .1)) t) (λ low w l t. low w t) said
 
 -- ---- counts that are lowered from the higher of two ranks up to i
 
@@ -237,14 +237,14 @@ pub lowered-quiet : (s : State) (i u : ℕ) → Quiet s (loweredCounts s i u) u
 lowered-quiet s i u x j d = lowered-no s i u x j (λ t. d (hit-says s i u x j t .owned))
 
 -- the counts of one vertex lowered
-pub lowered-turn : {S : Shape} (s : State) → Proper S s → (i u : ℕ) (bs : List ℕ) (c : Cursor) (k : RowCounted S s (loweredCounts s i u) u bs c)
-    (w : ℕ) (next : List ℕ) → w ≡ reached (S .most) c → w < S .most → i < S .levels → T (s .owns u w) → (j : ℕ) → s .rank u ≤ j → s .rank w ≤ j
-    → ((x : ℕ) → s .rank u ≤ x → s .rank w ≤ x → j ≤ x) → j ≤ i → next ≡ recounted S (step false) bs w j (i + 1 - j)
+pub lowered-turn : {K : Kind} (s : State) → Proper K s → (i u : ℕ) (bs : List ℕ) (c : Cursor) (k : RowCounted (K .shape) s (loweredCounts s i u) u bs c)
+    (w : ℕ) (next : List ℕ) → w ≡ reached (K .shape .most) c → w < K .shape .most → i ≤ K .top → T (s .owns u w) → (j : ℕ) → s .rank u ≤ j → s .rank w ≤ j
+    → ((x : ℕ) → s .rank u ≤ x → s .rank w ≤ x → j ≤ x) → j ≤ i → next ≡ recounted (K .shape) (step false) bs w j (i + 1 - j)
     → Counted s (upd (k .counts) w (loweredCounts s i u w)) next
-lowered-turn {S} s p i u bs c k w next at l b t j h₁ h₂ least h₃ f =
+lowered-turn {K} s p i u bs c k w next at l b t j h₁ h₂ least h₃ f =
     let new : ℕ → ℕ = loweredCounts s i u w in
     let old : (x : ℕ) → k .counts w x ≡ phi s w x = λ x. k .left w x (omega arith) in
-    f ∙ ap (λ (x : List ℕ). recounted S (step false) x w j (i + 1 - j)) (k .is)
+    f ∙ ap (λ (x : List ℕ). recounted (K .shape) (step false) x w j (i + 1 - j)) (k .is)
     ∙ recounted-proper s p (k .counts) (step false) w j (i + 1 - j) (upd (k .counts) w new) l (omega arith)
     (λ x p q. row-at (k .counts) w new x ∙ lowered-yes s i u w x (hit-of s i u w x t (omega arith) (omega arith) (omega arith))
     ∙ ap (λ (z : ℕ). z - 1) (sym (old x)))

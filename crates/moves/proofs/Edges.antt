@@ -6,8 +6,7 @@ use mathlib.Core.Bool.{Bool}
 use Prim.Native.Nat.{ℕ, _≤_}
 use native.Mathlib.Omega.{arith}
 use lib.Dec.{T, leb, leb→le, le→leb}
-use Rattle.model.specs.Shape.{Shape}
-use Rattle.model.specs.State.{State, edge, near}
+use Rattle.model.specs.State.{Kind, State, edge, near}
 use Rattle.model.specs.Moves.{ownedBy}
 use Rattle.model.specs.Change.{reown}
 use Rattle.model.proofs.Tests.{and-intro, and-left, and-right, or-cases, or-left, or-right}
@@ -48,7 +47,7 @@ module _ (s : State) where
 abbrev flat : Marks
 flat = record { rank = λ v. 0; mate = λ v. v }
 
-module _ {S : Shape} (s : State) (p : Proper S s) where
+module _ {K : Kind} (s : State) (p : Proper K s) where
   pub edge-loop : (v : ℕ) → T (edge s v v) → ⊥
   edge-loop v t = elim (edge-cases s v v t) [ inl o ↦ p .no-loop v o | inr o ↦ p .no-loop v o ]
 
@@ -70,12 +69,12 @@ module _ {S : Shape} (s : State) (p : Proper S s) where
     unfolding edge reown
     turned-edge v w = ap (λ (f : ℕ → ℕ → Bool). f v w) (owners-edges (s .n) (edge s) (ownedBy u q d (s .owns)) flat simple turned-flat)
 
-    pub turned-proper : Proper S (reown s (ownedBy u q d (s .owns)))
+    pub turned-proper : Proper K (reown s (ownedBy u q d (s .owns)))
     unfolding reown
     turned-proper = record {
-      shape = p .shape;
+      kind = p .kind;
       good = p .good;
-      room = p .room;
+      range = p .range;
       few = p .few;
       inside = λ v w t. edge-within s (p .inside) v w (turned-flat .edges v w t);
       past-rank = p .past-rank;

@@ -11,8 +11,7 @@ use lib.ListN.{length}
 use lib.Bits.{bitAnd, bitXor}
 use lib.Count.{ones, trailingZeros}
 use Rattle.model.specs.Counting.{count}
-use Rattle.model.specs.Shape.{Shape}
-use Rattle.model.specs.State.{State}
+use Rattle.model.specs.State.{Kind, State}
 use Rattle.model.specs.Bytes.{image, write}
 use Rattle.model.specs.Moves.{ownedBy}
 use Rattle.model.specs.Change.{reown}
@@ -44,7 +43,7 @@ pub record Handing (s : State) (i v k : ℕ) (bs : List ℕ) (x : ℕ) : Type 0 
   pub rest : Rest (goes s i v k) at x
   pub bytes : bs ≡ image (ownersOf s (gains v (going s i v k at) (s .owns)))
 
-module _ {S : Shape} {s : State} (p : Proper S s) (i v k : ℕ) where
+module _ {K : Kind} {s : State} (p : Proper K s) (i v k : ℕ) where
   -- ---- the word in two parts: who goes is in the roster of v's rank too
 
   -- a vertex of the word: in the roster exactly if it has the rank

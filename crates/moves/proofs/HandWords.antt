@@ -8,7 +8,7 @@ use native.Mathlib.Omega.{arith}
 use lib.Dec.{T, eqb, ltb}
 use Rattle.model.specs.Counting.{count}
 use Rattle.model.specs.Shape.{Shape}
-use Rattle.model.specs.State.{State, near, below}
+use Rattle.model.specs.State.{Kind, State, near, below}
 use Rattle.model.specs.Bytes.{read, write}
 use Rattle.model.specs.Moves.{handOver}
 use Rattle.model.specs.Change.{reown}
@@ -23,7 +23,7 @@ use Rattle.moves.specs.Proper.{Proper, Ordered, Held}
 use Rattle.moves.specs.Handing.{sameLevel, otherLevel, inWord, handedIn}
 use Rattle.moves.specs.declared.Split.{Split}
 use Rattle.moves.proofs.Edges.{edge-of, simple, owners, turned-proper}
-use Rattle.moves.proofs.Held.{reads-as, held-of}
+use Rattle.moves.proofs.Held.{proper-shape, reads-as, held-of}
 use Rattle.moves.proofs.Owning.{row-from}
 use Rattle.moves.proofs.Handing.{same-of, same-is, other-of, other-is, word-of, word-is}
 
@@ -50,7 +50,7 @@ pub record Over (s : State) (i v : ℕ) (bs : List ℕ) (r : Split) (k : ℕ) : 
   pub handed : r .handed ≡ count (sameLevel s i v) (64 * k)
   pub below : r .below ≡ count (otherLevel s i v) (64 * k)
 
-module _ {S : Shape} (s : State) (p : Proper S s) (i v : ℕ) where
+module _ {K : Kind} (s : State) (p : Proper K s) (i v : ℕ) where
   own-not : T (sameLevel s i v v) → ⊥
   own-not t = p .no-loop v (same-is s i v v t .0)
 
@@ -64,7 +64,7 @@ module _ {S : Shape} (s : State) (p : Proper S s) (i v : ℕ) where
   below-all m l = ap (reown s) (owned-all v (sameLevel s i v) false (s .owns) own-not m
       (λ w t. omega (arith, p .inside v w (same-is s i v w t .0) .1)))
 
-  below-proper : (m : ℕ) → Proper S (handedBelow m i v s)
+  below-proper : (m : ℕ) → Proper K (handedBelow m i v s)
   unfolding handedIn
   below-proper m =
       turned-proper s p v (λ w. sameLevel s i v w && ltb w m) false
@@ -114,18 +114,18 @@ module _ {S : Shape} (s : State) (p : Proper S s) (i v : ℕ) where
   }
 
   module _ {bs : List ℕ} {r : Split} {k : ℕ} (o : Over s i v bs r k) where
-    over-read : read S bs ≡ handedBelow (64 * k) i v s
+    over-read : read (K .shape) bs ≡ handedBelow (64 * k) i v s
     over-read = reads-as bs (handedBelow (64 * k) i v s) (o .bytes) (below-proper (64 * k))
 
-    pub over-held : Held S bs
+    pub over-held : Held (K .shape) bs
     over-held = held-of bs (handedBelow (64 * k) i v s) (o .bytes) (below-proper (64 * k))
 
     -- what the pass over the word asks
     pub over-asks : v < s .n → s .rank v ≡ suc i → 64 * k < s .n
-        → Held S bs × (((v < read S bs .n) × (read S bs .rank v ≡ suc i) × (64 * k < S .most)) × ((r .handed ≤ S .most) × (r .below ≤ S .most)))
+        → Held (K .shape) bs × (((v < read (K .shape) bs .n) × (read (K .shape) bs .rank v ≡ suc i) × (64 * k < K .shape .most)) × ((r .handed ≤ K .shape .most) × (r .below ≤ K .shape .most)))
     unfolding handedIn reown
     over-asks l e c =
-        let most : s .kind .shape .most ≡ S .most = ap (λ (X : Shape). X .most) (p .shape) in (
+        let most : s .kind .shape .most ≡ K .shape .most = ap (λ (X : Shape). X .most) (proper-shape p) in (
           over-held,
           (
             (
@@ -140,17 +140,17 @@ module _ {S : Shape} (s : State) (p : Proper S s) (i v : ℕ) where
           ),
         )
 
-    pub over-next : {bs′ : List ℕ} {r′ : Split} → 64 * k < s .n → bs′ ≡ write (handedIn (inWord k 64) i v (read S bs))
-        → r′ .handed ≡ r .handed + count (λ j. sameLevel (read S bs) i v (64 * k + j)) 64
-        → r′ .below ≡ r .below + count (λ j. otherLevel (read S bs) i v (64 * k + j)) 64
+    pub over-next : {bs′ : List ℕ} {r′ : Split} → 64 * k < s .n → bs′ ≡ write (handedIn (inWord k 64) i v (read (K .shape) bs))
+        → r′ .handed ≡ r .handed + count (λ j. sameLevel (read (K .shape) bs) i v (64 * k + j)) 64
+        → r′ .below ≡ r .below + count (λ j. otherLevel (read (K .shape) bs) i v (64 * k + j)) 64
         → Over s i v bs′ r′ (k + 1)
     over-next {bs′} {r′} l e f g =
         let m : 64 * k + 64 ≡ 64 * (k + 1) = omega arith in
-        let same-h : count (λ j. sameLevel (read S bs) i v (64 * k + j)) 64 ≡ count (λ j. sameLevel s i v (64 * k + j)) 64 =
+        let same-h : count (λ j. sameLevel (read (K .shape) bs) i v (64 * k + j)) 64 ≡ count (λ j. sameLevel s i v (64 * k + j)) 64 =
         ap (λ (t : State). count (λ j. sameLevel t i v (64 * k + j)) 64) over-read
         ∙ count-ext (λ j. sameLevel (handedBelow (64 * k) i v s) i v (64 * k + j)) (λ j. sameLevel s i v (64 * k + j)) 64
         (λ j _. below-same (64 * k) (64 * k + j) (omega arith)) in
-        let same-k : count (λ j. otherLevel (read S bs) i v (64 * k + j)) 64 ≡ count (λ j. otherLevel s i v (64 * k + j)) 64 =
+        let same-k : count (λ j. otherLevel (read (K .shape) bs) i v (64 * k + j)) 64 ≡ count (λ j. otherLevel s i v (64 * k + j)) 64 =
         ap (λ (t : State). count (λ j. otherLevel t i v (64 * k + j)) 64) over-read
         ∙ count-ext (λ j. otherLevel (handedBelow (64 * k) i v s) i v (64 * k + j)) (λ j. otherLevel s i v (64 * k + j)) 64
         (λ j _. below-other (64 * k) (64 * k + j) (omega arith)) in

@@ -6,8 +6,8 @@ use mathlib.Core.Bool.{Bool, true, false, _&&_, _||_}
 use Prim.Native.Nat.{ℕ, suc, _+_, _*_, _≤_, _<_}
 use lib.Dec.{T, eqb, leb, eqb→eq, leb→le, le→leb, lt→ltb, ltb→lt, not-T, T-not}
 use Rattle.model.specs.Counting.{upd}
-use Rattle.model.specs.Shape.{Shape, GoodShape}
-use Rattle.model.specs.State.{State}
+use Rattle.model.specs.Shape.{GoodShape}
+use Rattle.model.specs.State.{Kind, State}
 use Rattle.model.specs.Bytes.{image}
 use Rattle.model.specs.Parts.{bitOf}
 use Rattle.model.specs.Moves.{ownedBy}
@@ -130,7 +130,7 @@ own-gains s good v w p q l k here f g =
 
 -- ---- the end of the word: v's row keeps what was gathered
 
-module _ {S : Shape} (s : State) (p : Proper S s) (i v k : ℕ) where
+module _ {K : Kind} (s : State) (p : Proper K s) (i v k : ℕ) where
   abbrev gone : ℕ → Bool
   gone = going s i v k 64
 

@@ -3,51 +3,81 @@ use mathlib.Core.Path.{_≡_, sym, ap, ap₂, _∙_, subst}
 use mathlib.Core.Logic.{inl, inr}
 use mathlib.Core.Bool.{Bool, _&&_}
 use mathlib.Core.List.{List}
-use Prim.Native.Nat.{ℕ, _≤_, _<_}
+use Prim.Native.Nat.{ℕ, suc, _≤_, _<_}
 use native.Mathlib.Omega.{arith}
 use lib.Dec.{T, ltb, eqb, ltb→lt, lt→ltb}
 use lib.ListN.{length}
 use Rattle.model.specs.Counting.{count}
 use Rattle.model.specs.Shape.{Shape, GoodShape}
-use Rattle.model.specs.State.{base, State, phi, edges}
-use Rattle.model.specs.Bytes.{sizeAt, edgesAt, rankAt, mateAt, phiAt, ownsAt, rosterAt, mateEntry, read, write}
+use Rattle.model.specs.State.{Kind, Rules, rules, InRange, GoodKind, State, phi, edges}
+use Rattle.model.specs.Bytes.{sizeAt, edgesAt, topAt, kindAt, rulesAt, rankAt, mateAt, phiAt, ownsAt, rosterAt, mateEntry, read, write}
 use Rattle.model.specs.Valid.{Valid}
+use Rattle.model.proofs.Shapes.{thr-pos}
 use Rattle.model.proofs.Tests.{eq?, and-left, and-yes}
 use Rattle.model.proofs.Prefix.{count-ext, count-skip}
 use Rattle.model.proofs.Fields.{write-length, edges-write, rank-write, mate-write, phi-write, owns-write, roster-write}
 use Rattle.model.proofs.Limits.{mate-past, mate-inside}
-use Rattle.model.proofs.Reading.{read-size, read-back}
+use Rattle.model.proofs.Reading.{read-kind, read-size, read-back}
 use Rattle.layout.specs.Setters.{Sized}
 use Rattle.layout.specs.Rows.{degreeAt, NthOwned}
 use Rattle.moves.specs.Proper.{Proper, Ordered, Held}
 
--- what a proper state says of its shape, said of S
-pub proper-good : {S : Shape} {s : State} → Proper S s → GoodShape S
-proper-good p = subst GoodShape (p .shape) (p .good)
+-- what a proper state says of its kind, said of K
+module _ {K : Kind} {s : State} (p : Proper K s) where
+  pub proper-shape : s .kind .shape ≡ K .shape
+  proper-shape = ap (λ (L : Kind). L .shape) (p .kind)
 
-pub proper-room : {S : Shape} {s : State} → Proper S s → base .top < S .levels
-proper-room p = subst (λ (T : Shape). base .top < T .levels) (p .shape) (p .room)
+  pub proper-top : s .kind .top ≡ K .top
+  proper-top = ap (λ (L : Kind). L .top) (p .kind)
 
-pub proper-few : {S : Shape} {s : State} → Proper S s → s .n ≤ S .most
-proper-few {s = s} p = subst (λ (T : Shape). s .n ≤ T .most) (p .shape) (p .few)
+  pub proper-good : GoodShape (K .shape)
+  proper-good = subst (λ (L : Kind). GoodShape (L .shape)) (p .kind) (p .good)
+
+  pub proper-range : InRange K
+  proper-range = subst InRange (p .kind) (p .range)
+
+  pub proper-room : K .top < K .shape .levels
+  proper-room = proper-range .room
+
+  -- every threshold is at least 1
+  pub proper-pos : (j : ℕ) → 1 ≤ rules K .thr j
+  proper-pos = thr-pos (record { shape = proper-good; range = proper-range })
+
+  pub proper-few : s .n ≤ K .shape .most
+  proper-few = subst (λ (L : Kind). s .n ≤ L .shape .most) (p .kind) (p .few)
+
+  pub proper-ranks : (v : ℕ) → s .rank v ≤ suc (K .top)
+  proper-ranks v = subst (λ (L : Kind). s .rank v ≤ suc (L .top)) (p .kind) (p .ranks v)
 
 -- reading what was written gives the state again
-pub read-proper : {S : Shape} (s : State) → Proper S s → read (s .kind .shape) (write s) ≡ s
+pub read-proper : {K : Kind} (s : State) → Proper K s → read (s .kind .shape) (write s) ≡ s
 read-proper s p = read-back s (p .good) (p .few) (p .inside) (p .past-rank) (p .past-mate) (p .mates)
 
 -- bytes that are the writing of a proper state
-module _ {S : Shape} (bs : List ℕ) (s : State) (e : bs ≡ write s) (p : Proper S s) where
-  pub reads-as : read S bs ≡ s
-  reads-as = ap₂ read (sym (p .shape)) e ∙ read-proper s p
+module _ {K : Kind} (bs : List ℕ) (s : State) (e : bs ≡ write s) (p : Proper K s) where
+  pub reads-as : read (K .shape) bs ≡ s
+  reads-as = ap₂ read (sym (proper-shape p)) e ∙ read-proper s p
 
-  pub held-of : Held S bs
-  held-of = record { written = e ∙ ap write (sym reads-as); proper = subst (Proper S) (sym reads-as) p }
+  pub kind-as : kindAt (K .shape) bs ≡ K
+  kind-as = sym (read-kind (K .shape) bs) ∙ ap (λ (t : State). t .kind) reads-as ∙ p .kind
 
-pub valid-proper : {S : Shape} (s : State) → s .kind .shape ≡ S → GoodShape (s .kind .shape) → base .top < s .kind .shape .levels → Valid base s → Proper S s
-valid-proper s of good room v = record {
-  shape = of;
-  good = good;
-  room = room;
+  pub top-as : topAt bs ≡ K .top
+  top-as = ap (λ (L : Kind). L .top) kind-as
+
+  pub rules-as : rulesAt bs ≡ rules K
+  rules-as = ap rules kind-as
+
+  pub held-of : Held (K .shape) bs
+  held-of = record {
+    written = e ∙ ap write (sym reads-as);
+    proper = subst (λ (L : Kind). Proper L (read (K .shape) bs)) (sym kind-as) (subst (Proper K) (sym reads-as) p);
+  }
+
+pub valid-proper : {K : Kind} (s : State) → s .kind ≡ K → GoodKind (s .kind) → Valid (rules (s .kind)) s → Proper K s
+valid-proper s of good v = record {
+  kind = of;
+  good = good .shape;
+  range = good .range;
   few = v .few;
   inside = v .inside;
   past-rank = v .past;
@@ -58,14 +88,17 @@ valid-proper s of good room v = record {
   owned-once = v .owned-once;
 }
 
-pub valid-ordered : (s : State) → Valid base s → Ordered s
+pub valid-ordered : {R : Rules} (s : State) → Valid R s → Ordered s
 valid-ordered s v = v .owner-high
 
 module _ {S : Shape} {bs : List ℕ} (h : Held S bs) where
   pub held-good : GoodShape S
   held-good = proper-good (h .proper)
 
-  pub held-room : base .top < S .levels
+  pub held-range : InRange (kindAt S bs)
+  held-range = proper-range (h .proper)
+
+  pub held-room : topAt bs < S .levels
   held-room = proper-room (h .proper)
 
   pub held-few : read S bs .n ≤ S .most
@@ -90,9 +123,9 @@ module _ {S : Shape} {bs : List ℕ} (h : Held S bs) where
   unfolding read
   held-mate v l = ap (λ (x : List ℕ). mateAt S x v) (h .written) ∙ mate-write (read S bs) held-good v l
 
-  pub held-phi : (v j : ℕ) → v < S .most → j < S .levels → phiAt S bs v j ≡ phi (read S bs) v j
+  pub held-phi : (v j : ℕ) → v < S .most → j ≤ topAt bs → phiAt S bs v j ≡ phi (read S bs) v j
   unfolding read
-  held-phi v j l k = ap (λ (x : List ℕ). phiAt S x v j) (h .written) ∙ phi-write (read S bs) held-good v j l k
+  held-phi v j l k = ap (λ (x : List ℕ). phiAt S x v j) (h .written) ∙ phi-write (read S bs) held-good v j l (omega (arith, held-room)) k
 
   pub held-owns : (v w : ℕ) → v < S .most → w < S .most → ownsAt S bs v w ≡ read S bs .owns v w
   unfolding read
@@ -123,8 +156,8 @@ module _ {S : Shape} {bs : List ℕ} (h : Held S bs) where
   held-small v l = omega (arith, held-few)
 
 -- a place of a row of a proper state, whatever else the bytes hold: bs need only have s's owners
-pub nth-in : {S : Shape} (s : State) → Proper S s → (bs : List ℕ) → ((v w : ℕ) → v < S .most → w < S .most → ownsAt S bs v w ≡ s .owns v w)
-    → (v k r : ℕ) → v < S .most → NthOwned S bs v k r → (r < s .n) × (T (s .owns v r)) × (count (s .owns v) r ≡ k)
-nth-in {S} s p bs f v k r l n =
+pub nth-in : {K : Kind} (s : State) → Proper K s → (bs : List ℕ) → ((v w : ℕ) → v < K .shape .most → w < K .shape .most → ownsAt (K .shape) bs v w ≡ s .owns v w)
+    → (v k r : ℕ) → v < K .shape .most → NthOwned (K .shape) bs v k r → (r < s .n) × (T (s .owns v r)) × (count (s .owns v) r ≡ k)
+nth-in {K} s p bs f v k r l n =
     let t : T (s .owns v r) = subst T (f v r l (n .inside)) (n .is) in
-    (p .inside v r t .1, t, sym (count-ext (ownsAt S bs v) (s .owns v) r (λ w b. f v w l (omega (arith, n .inside)))) ∙ n .before)
+    (p .inside v r t .1, t, sym (count-ext (ownsAt (K .shape) bs v) (s .owns v) r (λ w b. f v w l (omega (arith, n .inside)))) ∙ n .before)

@@ -6,8 +6,7 @@ use Prim.Native.Nat.{ℕ, suc, _≤_, _<_}
 use native.Mathlib.Omega.{arith}
 use lib.Dec.{T, leb, eqb}
 use Rattle.model.specs.Counting.{upd}
-use Rattle.model.specs.Shape.{Shape}
-use Rattle.model.specs.State.{base, State, edge, near}
+use Rattle.model.specs.State.{Kind, rules, State, edge, near}
 use Rattle.model.specs.Moves.{part, rise, marry, handOver}
 use Rattle.model.specs.Change.{reown}
 use Rattle.model.proofs.Tests.{eq?, bool-ext, T-true, and-left}
@@ -17,6 +16,7 @@ use Rattle.theory.proofs.Ownership.{out, back, rest, turned, rise-owns, hand-ow
 use Rattle.theory.proofs.Fits.{lift-is}
 use Rattle.theory.proofs.Handing.{handed-row}
 use Rattle.moves.specs.Proper.{Proper, Ordered, tookOver, ranked, RowBelow}
+use Rattle.moves.proofs.Held.{proper-top, proper-ranks}
 use Rattle.moves.proofs.Edges.{edge-of, near-of, near-edge, near-low, edge-loop, simple, owners, turned-edge, turned-proper}
 
 -- a function changed at a number below n: from n on it is as it was, and its values stay below a bound
@@ -26,14 +26,14 @@ upd-past f k x n v h l = upd-other f k x v (omega arith)
 upd-low : (f : ℕ → ℕ) (k x m v : ℕ) → x < m → f v < m → upd f k x v < m
 upd-low f k x m v h l = elim (eq? v k) [ inl e ↦ omega (arith, upd-same f k x v e) | inr d ↦ omega (arith, upd-other f k x v d) ]
 
-module _ {S : Shape} (s : State) (p : Proper S s) where
+module _ {K : Kind} (s : State) (p : Proper K s) where
   -- other mates below n
   mates-proper : (k x u y : ℕ) → k < s .n → x < s .n → u < s .n → y < s .n
-      → Proper S (record { kind = s .kind; n = s .n; rank = s .rank; mate = upd (upd (s .mate) k x) u y; owns = s .owns })
+      → Proper K (record { kind = s .kind; n = s .n; rank = s .rank; mate = upd (upd (s .mate) k x) u y; owns = s .owns })
   mates-proper k x u y a b c d = record {
-    shape = p .shape;
+    kind = p .kind;
     good = p .good;
-    room = p .room;
+    range = p .range;
     few = p .few;
     inside = p .inside;
     past-rank = p .past-rank;
@@ -44,15 +44,15 @@ module _ {S : Shape} (s : State) (p : Proper S s) where
     owned-once = p .owned-once;
   }
 
-  pub part-proper : (v : ℕ) → v < s .n → Proper S (part v s)
+  pub part-proper : (v : ℕ) → v < s .n → Proper K (part v s)
   unfolding part
   part-proper v l = mates-proper (s .mate v) (s .mate v) v v (p .mates v l) (p .mates v l) l l
 
-  pub marry-proper : (u y : ℕ) → u < s .n → y < s .n → Proper S (marry u y s)
+  pub marry-proper : (u y : ℕ) → u < s .n → y < s .n → Proper K (marry u y s)
   unfolding marry
   marry-proper u y l k = mates-proper u y y u l k k l
 
-  pub took-proper : (i u : ℕ) → u < s .n → Proper S (tookOver i u s)
+  pub took-proper : (i u : ℕ) → u < s .n → Proper K (tookOver i u s)
   unfolding tookOver
   took-proper i u l = turned-proper s p u (near s u i) true (near-edge s u i)
 
@@ -60,22 +60,22 @@ module _ {S : Shape} (s : State) (p : Proper S s) where
   handed-edge : (i v w : ℕ) → T (s .owns v w && eqb (s .rank w) (suc i)) → T (edge s v w)
   handed-edge i v w t = edge-of s v w (and-left (s .owns v w) _ t)
 
-  pub hand-proper : (i v : ℕ) → v < s .n → Proper S (handOver i v s)
+  pub hand-proper : (i v : ℕ) → v < s .n → Proper K (handOver i v s)
   unfolding handOver reown
   hand-proper i v l = turned-proper s p v (λ w. s .owns v w && eqb (s .rank w) (suc i)) false (handed-edge i v)
 
-  pub ranked-proper : (v x : ℕ) → v < s .n → x ≤ suc (base .top) → Proper S (ranked v x s)
+  pub ranked-proper : (v x : ℕ) → v < s .n → x ≤ suc (K .top) → Proper K (ranked v x s)
   unfolding ranked
   ranked-proper v x l k = record {
-    shape = p .shape;
+    kind = p .kind;
     good = p .good;
-    room = p .room;
+    range = p .range;
     few = p .few;
     inside = p .inside;
     past-rank = λ w h. upd-past (s .rank) v x (s .n) w l h ∙ p .past-rank w h;
     past-mate = p .past-mate;
-    ranks = λ w. let h : upd (s .rank) v x w < suc (suc (base .top)) =
-        upd-low (s .rank) v x (suc (suc (base .top))) w (omega arith) (omega (arith, p .ranks w)) in omega arith;
+    ranks = λ w. let h : upd (s .rank) v x w < suc (suc (K .top)) =
+        upd-low (s .rank) v x (suc (suc (K .top))) w (omega arith) (omega (arith, proper-ranks p w)) in omega (arith, proper-top p);
     mates = p .mates;
     no-loop = p .no-loop;
     owned-once = p .owned-once;
@@ -109,7 +109,7 @@ module _ {S : Shape} (s : State) (p : Proper S s) where
 
   -- and so does a vertex at level i that has handed its edges of that level on
   pub hand-row : (i v : ℕ) → Ordered s → s .rank v ≡ suc i → RowBelow i v (handOver i v s)
-  hand-row i v o e = handed-row (setting base s) (simple s p) i v s (record { kind = refl; size = refl; owners = owners s p o }) e
+  hand-row i v o e = handed-row (setting (rules (s .kind)) s) (simple s p) i v s (record { kind = refl; size = refl; owners = owners s p o }) e
 
   -- where a vertex goes to another rank, its own neighbours are as they were
   pub ranked-near : (v x j w : ℕ) → near (ranked v x s) v j w ≡ near s v j w
@@ -128,11 +128,11 @@ module _ {S : Shape} (s : State) (p : Proper S s) where
 
   pub rise-ordered : (i u : ℕ) → Ordered s → s .rank u ≤ i → Ordered (rise i u s)
   unfolding rise part near nearIn
-  rise-ordered i u o l = rise-owns (setting base s) (simple s p) (s .owns) (owners s p o) (lift-is i u s) l .high
+  rise-ordered i u o l = rise-owns (setting (rules (s .kind)) s) (simple s p) (s .owns) (owners s p o) (lift-is i u s) l .high
 
   pub hand-ordered : (i v : ℕ) → Ordered s → s .rank v ≡ suc i → Ordered (handOver i v s)
   unfolding handOver
-  hand-ordered i v o e = hand-owns (setting base s) (simple s p) (s .owns) (owners s p o) e .high
+  hand-ordered i v o e = hand-owns (setting (rules (s .kind)) s) (simple s p) (s .owns) (owners s p o) e .high
 
   -- a fall of a vertex that owns edges to lower vertices alone
   pub fall-ordered : (i v : ℕ) → Ordered s → s .rank v ≡ suc i → RowBelow i v s → Ordered (ranked v i s)
@@ -144,7 +144,7 @@ module _ {S : Shape} (s : State) (p : Proper S s) where
         mate-o = λ x. refl;
       }) e (λ w t. omega (arith, near-low s v i w (subst T (f w) t))) .high
 
-pub rise-proper : {S : Shape} (s : State) → Proper S s → (i u : ℕ) → u < s .n → i ≤ base .top → Proper S (rise i u s)
+pub rise-proper : {K : Kind} (s : State) → Proper K s → (i u : ℕ) → u < s .n → i ≤ K .top → Proper K (rise i u s)
 unfolding tookOver reown
-rise-proper {S} s p i u l k =
-    subst (Proper S) (rise-halves s p i u) (ranked-proper (tookOver i u s) (took-proper s p i u l) u (suc i) l (omega arith))
+rise-proper {K} s p i u l k =
+    subst (Proper K) (rise-halves s p i u) (ranked-proper (tookOver i u s) (took-proper s p i u l) u (suc i) l (omega arith))

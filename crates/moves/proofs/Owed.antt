@@ -8,8 +8,7 @@ use Prim.Native.Nat.{ℕ, _+_, _≤_, _<_}
 use native.Mathlib.Omega.{arith}
 use lib.Dec.{T, leb, ltb, leb→le, le→leb, ltb→lt, lt→ltb}
 use Rattle.model.specs.Counting.{count}
-use Rattle.model.specs.Shape.{Shape}
-use Rattle.model.specs.State.{State, near, below, phi}
+use Rattle.model.specs.State.{Kind, State, near, below, phi}
 use Rattle.model.specs.Bytes.{read, write}
 use Rattle.model.specs.Change.{reown}
 use Rattle.model.proofs.Tests.{eq?, le?, holds?, bool-ext, T-true, T-false, and-intro, and-left, and-right}
@@ -38,8 +37,8 @@ pub record TakeOver (s : State) (i u : ℕ) (bs : List ℕ) (missing r : ℕ) : 
   pub counted : missing ≡ count (owedFrom s i u r) (s .n)
 
 -- u may rise to i: it owns edges to vertices below i alone
-pub record CanRise (S : Shape) (s : State) (i u : ℕ) : Type 0 where
-  pub proper : Proper S s
+pub record CanRise (K : Kind) (s : State) (i u : ℕ) : Type 0 where
+  pub proper : Proper K s
   pub within : u < s .n
   pub low : (w : ℕ) → T (s .owns u w) → s .rank w ≤ i
 
@@ -68,7 +67,7 @@ module _ (s : State) (i u w : ℕ) where
   unfolding owedFrom
   from-is r t = (and-left (owed s i u w) _ t, leb→le r (s .rank w) (and-right (owed s i u w) _ t))
 
-module _ {S : Shape} {s : State} {i u : ℕ} (q : CanRise S s i u) where
+module _ {K : Kind} {s : State} {i u : ℕ} (q : CanRise K s i u) where
   -- what is owed is near, and what is near is owned or owed
   owed-near : (w : ℕ) → T (owed s i u w) → T (near s u i w)
   owed-near w t = let o = owed-is s i u w t in near-of s u i w (edge-back s u w (o .0)) (o .1)
@@ -125,7 +124,7 @@ module _ {S : Shape} {s : State} {i u : ℕ} (q : CanRise S s i u) where
 
   -- ---- the loop
 
-  takes : (r : ℕ) → Takes S s u (owedBelow s i u r)
+  takes : (r : ℕ) → Takes K s u (owedBelow s i u r)
   takes r = record { proper = q .proper; within = q .within; owes = λ w t. owed-is s i u w (below-is s i u w r t .0) .0 }
 
   -- an owner's rank is at least u's
@@ -140,10 +139,10 @@ module _ {S : Shape} {s : State} {i u : ℕ} (q : CanRise S s i u) where
   }
 
   module _ {bs : List ℕ} {missing r : ℕ} (G : TakeOver s i u bs missing r) where
-    pub over-read : read S bs ≡ tookFrom (owedBelow s i u r) u s
+    pub over-read : read (K .shape) bs ≡ tookFrom (owedBelow s i u r) u s
     over-read = takes-read (takes r) (G .bytes)
 
-    pub over-held : Held S bs
+    pub over-held : Held (K .shape) bs
     over-held = takes-held (takes r) (G .bytes)
 
     -- an edge is missing, so not every rank is done
@@ -169,10 +168,10 @@ module _ {S : Shape} {s : State} {i u : ℕ} (q : CanRise S s i u) where
       owner-owed w t = let o = owner-is s r u w t in (owed-of s i u w (o .0) (omega (arith, o .1)), o .1)
 
       -- they are those that are missing but for the higher ones
-      parts : count (ownerAt (read S bs) r u) (read S bs .n) + count (owedFrom s i u (r + 1)) (s .n) ≡ missing
+      parts : count (ownerAt (read (K .shape) bs) r u) (read (K .shape) bs .n) + count (owedFrom s i u (r + 1)) (s .n) ≡ missing
       unfolding tookFrom reown
       parts =
-          let e : count (ownerAt (read S bs) r u) (read S bs .n) ≡ count (ownerAt s r u) (s .n) =
+          let e : count (ownerAt (read (K .shape) bs) r u) (read (K .shape) bs .n) ≡ count (ownerAt s r u) (s .n) =
           ap (λ (x : State). count (ownerAt x r u) (x .n)) over-read
           ∙ count-ext (ownerAt then r u) (ownerAt s r u) (s .n) (λ w _. still w) in
           let p = count-parts (ownerAt s r u) (owedFrom s i u (r + 1)) (owedFrom s i u r) (s .n)
@@ -187,7 +186,7 @@ module _ {S : Shape} {s : State} {i u : ℕ} (q : CanRise S s i u) where
           (λ w t f. omega (arith, owner-is s r u w t .1, from-is s i u w (r + 1) f .1)) in
           omega (arith, e, p, G .counted)
 
-      pub over-few : count (ownerAt (read S bs) r u) (read S bs .n) ≤ missing
+      pub over-few : count (ownerAt (read (K .shape) bs) r u) (read (K .shape) bs .n) ≤ missing
       over-few = omega (arith, parts)
 
       next-rank : tookFrom (ownerAt then r u) u then ≡ tookFrom (owedBelow s i u (r + 1)) u s
@@ -203,8 +202,8 @@ module _ {S : Shape} {s : State} {i u : ℕ} (q : CanRise S s i u) where
             | inr z ↦ below-of s i u w r (b .0) (omega (arith, b .1))
           ])
 
-      pub over-next : {cs : List ℕ} {missing′ : ℕ} → cs ≡ write (tookFrom (ownerAt (read S bs) r u) u (read S bs))
-          → missing′ + count (ownerAt (read S bs) r u) (read S bs .n) ≡ missing → TakeOver s i u cs missing′ (r + 1)
+      pub over-next : {cs : List ℕ} {missing′ : ℕ} → cs ≡ write (tookFrom (ownerAt (read (K .shape) bs) r u) u (read (K .shape) bs))
+          → missing′ + count (ownerAt (read (K .shape) bs) r u) (read (K .shape) bs .n) ≡ missing → TakeOver s i u cs missing′ (r + 1)
       over-next e f = record {
         bytes = e ∙ ap (λ (x : State). write (tookFrom (ownerAt x r u) u x)) over-read ∙ ap write next-rank;
         counted = omega (arith, f, parts);

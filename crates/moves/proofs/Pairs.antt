@@ -6,8 +6,7 @@ use Prim.Native.Nat.{ℕ, _<_}
 use native.Mathlib.Omega.{arith}
 use lib.Dec.{eqb}
 use Rattle.model.specs.Counting.{upd}
-use Rattle.model.specs.Shape.{Shape}
-use Rattle.model.specs.State.{State, edge, near, below, phi, edges}
+use Rattle.model.specs.State.{Kind, State, edge, near, below, phi, edges}
 use Rattle.model.specs.Bytes.{noMate, mateEntry, fieldsOf, write}
 use Rattle.model.specs.Moves.{part, marry}
 use Rattle.model.proofs.Tests.{eq?}
@@ -22,7 +21,7 @@ entry-same : (s t : State) (x : ℕ) → s .mate x ≡ t .mate x → mateEntry s
 unfolding mateEntry
 entry-same s t x e = ap (λ (m : ℕ). elim (eqb m x) as (λ y. ℕ) [ true ↦ noMate | false ↦ m ]) e
 
-module _ {S : Shape} (s : State) (p : Proper S s) (v : ℕ) (l : v < s .n) where
+module _ {K : Kind} (s : State) (p : Proper K s) (v : ℕ) (l : v < s .n) where
   -- the entry tells whether v has a mate, and which
   pub entry-free : mateEntry s v ≡ noMate → s .mate v ≡ v
   entry-free e = elim (eq? (s .mate v) v) [
@@ -74,7 +73,7 @@ module _ {S : Shape} (s : State) (p : Proper S s) (v : ℕ) (l : v < s .n) where
         owns = λ x y k h. refl;
       })
 
-module _ {S : Shape} (s : State) (p : Proper S s) (u y : ℕ) (l : u < s .n) (k : y < s .n) (d : u ≢ y) where
+module _ {K : Kind} (s : State) (p : Proper K s) (u y : ℕ) (l : u < s .n) (k : y < s .n) (d : u ≢ y) where
   pub marry-image : setMate (s .kind .shape) (setMate (s .kind .shape) (write s) u y) y u ≡ write (marry u y s)
   unfolding write fieldsOf marry edges phi below near edge withMate
   marry-image =

@@ -7,8 +7,7 @@ use Prim.Native.Nat.{ℕ, suc, _+_, _≤_, _<_}
 use native.Mathlib.Omega.{arith}
 use lib.Dec.{T, leb, eqb, eqb→eq}
 use Rattle.model.specs.Counting.{bit, count}
-use Rattle.model.specs.Shape.{Shape}
-use Rattle.model.specs.State.{State, edge, near, below, phi, edgeCount, edges}
+use Rattle.model.specs.State.{Kind, State, edge, near, below, phi, edgeCount, edges}
 use Rattle.model.proofs.Tests.{eq?, le?, holds?, bool-ext, true-T, eqb-yes, and-intro, and-left, and-right}
 use Rattle.model.proofs.Counting.{bit-yes, bit-no, count-at, count-some, count-miss}
 use Rattle.model.proofs.Prefix.{count-ext}
@@ -16,7 +15,7 @@ use Rattle.model.proofs.Lists.{upd-same, upd-other}
 use Rattle.model.proofs.Limits.{phi-below, phi-above, phi-zero, phi-none}
 use Rattle.moves.specs.Proper.{Proper, ranked, RowBelow}
 use Rattle.moves.specs.Counts.{hit, loweredCounts, raisedCounts}
-use Rattle.moves.proofs.Held.{proper-good, proper-few}
+use Rattle.moves.proofs.Held.{proper-good, proper-few, proper-ranks}
 use Rattle.moves.proofs.Edges.{edge-back, edge-turn, near-of, near-edge, near-low, edge-loop}
 use Rattle.moves.proofs.Choices.{Hit, hit-says, hit-of, lowered-yes, lowered-no, raised-yes, raised-no}
 use Rattle.moves.proofs.Keeps.{ranked-near, ranked-proper}
@@ -64,9 +63,9 @@ module _ (s : State) (u x : ℕ) where
   ranked-is-near w j t =
       (subst T (ranked-edge w u) (near-edge (ranked u x s) w j u t), omega (arith, near-low (ranked u x s) w j u t, ranked-here))
 
-module _ {S : Shape} (s : State) (p : Proper S s) where
+module _ {K : Kind} (s : State) (p : Proper K s) where
   -- every count is below the number of places
-  pub phi-fits : (v j : ℕ) → phi s v j < S .most
+  pub phi-fits : (v j : ℕ) → phi s v j < K .shape .most
   unfolding below
   phi-fits v j = elim (le? (s .n) v) [
     | inl l ↦ omega (arith, proper-good p .some, proper-good p .rows, phi-none s (p .inside) v j l)
@@ -200,7 +199,7 @@ module _ {S : Shape} (s : State) (p : Proper S s) where
   fall-owned i v w l e f t = fall-phi i v w i l e f (λ g. absurd (p .no-loop v (subst (λ (y : ℕ). T (s .owns v y)) g t)))
 
 -- they are below the number of places too
-pub raised-fits : {S : Shape} (s : State) → Proper S s → (i v w : ℕ) → v < s .n → s .rank v ≡ suc i → RowBelow i v s → T (s .owns v w)
-    → raisedCounts s i v w i < S .most
+pub raised-fits : {K : Kind} (s : State) → Proper K s → (i v w : ℕ) → v < s .n → s .rank v ≡ suc i → RowBelow i v s → T (s .owns v w)
+    → raisedCounts s i v w i < K .shape .most
 raised-fits s p i v w l e f t =
-    omega (arith, fall-owned s p i v w l e f t, phi-fits (ranked v i s) (ranked-proper s p v i l (omega (arith, p .ranks v))) w i)
+    omega (arith, fall-owned s p i v w l e f t, phi-fits (ranked v i s) (ranked-proper s p v i l (omega (arith, proper-ranks p v))) w i)

@@ -7,8 +7,7 @@ use Prim.Native.Nat.{ℕ, _+_, _*_, _≤_, _<_}
 use native.Mathlib.Omega.{arith}
 use lib.Dec.{T}
 use Rattle.model.specs.Counting.{count}
-use Rattle.model.specs.Shape.{Shape}
-use Rattle.model.specs.State.{State}
+use Rattle.model.specs.State.{Kind, State}
 use Rattle.model.specs.Bytes.{read, write}
 use Rattle.model.proofs.Tests.{le?, bool-ext}
 use Rattle.model.proofs.Prefix.{count-zero, count-add, count-ext, count-mono, count-step, count-skip}
@@ -32,12 +31,12 @@ count-within h m n f = elim (le? m n) [
   | inr l ↦ let e = count-skip h n m (omega arith) (λ w a b t. omega (arith, f w t)) in omega (arith, e)
 ]
 
-module _ {S : Shape} {s : State} {u : ℕ} (r : ℕ) (q : Takes S s u (ownerAt s r u)) where
+module _ {K : Kind} {s : State} {u : ℕ} (r : ℕ) (q : Takes K s u (ownerAt s r u)) where
   -- the owners of the rank, and those of the words before word k
   abbrev owner : ℕ → Bool
   owner = ownerAt s r u
 
-  before : (k : ℕ) → Takes S s u (upTo owner (64 * k))
+  before : (k : ℕ) → Takes K s u (upTo owner (64 * k))
   before k = takes-some q (upTo owner (64 * k)) (λ w t. upTo-is owner (64 * k) w t .0)
 
   inside : (w : ℕ) → T (owner w) → w < s .n
@@ -51,14 +50,14 @@ module _ {S : Shape} {s : State} {u : ℕ} (r : ℕ) (q : Takes S s u (ownerAt s
   }
 
   module _ {missing : ℕ} {bs : List ℕ} {left k : ℕ} (G : TakeRank s r u missing bs left k) where
-    pub rank-read : read S bs ≡ tookFrom (upTo owner (64 * k)) u s
+    pub rank-read : read (K .shape) bs ≡ tookFrom (upTo owner (64 * k)) u s
     rank-read = takes-read (before k) (G .bytes)
 
-    pub rank-held : Held S bs
+    pub rank-held : Held (K .shape) bs
     rank-held = takes-held (before k) (G .bytes)
 
     -- the owners of word k are all still there
-    same-word : count (λ j. ownerAt (read S bs) r u (64 * k + j)) 64 ≡ count (λ j. owner (64 * k + j)) 64
+    same-word : count (λ j. ownerAt (read (K .shape) bs) r u (64 * k + j)) 64 ≡ count (λ j. owner (64 * k + j)) 64
     same-word =
         let t : State = tookFrom (upTo owner (64 * k)) u s in
         ap (λ (x : State). count (λ j. ownerAt x r u (64 * k + j)) 64) rank-read
@@ -67,7 +66,7 @@ module _ {S : Shape} {s : State} {u : ℕ} (r : ℕ) (q : Takes S s u (ownerAt s
         (λ o. owner-left (before k) r (64 * k + j) o (λ b. omega (arith, upTo-is owner (64 * k) (64 * k + j) b .1))))
 
     -- .. and no more than are missing
-    pub rank-few : count owner (s .n) ≤ missing → count (λ j. ownerAt (read S bs) r u (64 * k + j)) 64 ≤ left
+    pub rank-few : count owner (s .n) ≤ missing → count (λ j. ownerAt (read (K .shape) bs) r u (64 * k + j)) 64 ≤ left
     rank-few m =
         omega (arith, same-word, G .counted, count-add owner (64 * k) 64, count-within owner (64 * k + 64) (s .n) inside)
 
@@ -95,8 +94,8 @@ module _ {S : Shape} {s : State} {u : ℕ} (r : ℕ) (q : Takes S s u (ownerAt s
         ]))
 
     pub rank-next : {cs : List ℕ} {left′ : ℕ} → 64 * k < s .kind .shape .most
-        → cs ≡ write (tookFrom (λ w. ownerAt (read S bs) r u w && inWord k 64 w) u (read S bs))
-        → left′ + count (λ j. ownerAt (read S bs) r u (64 * k + j)) 64 ≡ left → TakeRank s r u missing cs left′ (k + 1)
+        → cs ≡ write (tookFrom (λ w. ownerAt (read (K .shape) bs) r u w && inWord k 64 w) u (read (K .shape) bs))
+        → left′ + count (λ j. ownerAt (read (K .shape) bs) r u (64 * k + j)) 64 ≡ left → TakeRank s r u missing cs left′ (k + 1)
     rank-next l e f =
         let m : 64 * k + 64 ≡ 64 * (k + 1) = omega arith in
         record {

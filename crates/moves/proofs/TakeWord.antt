@@ -12,7 +12,7 @@ use lib.Bits.{bitAnd, bitOr}
 use lib.Count.{trailingZeros}
 use Rattle.model.specs.Counting.{count}
 use Rattle.model.specs.Shape.{Shape}
-use Rattle.model.specs.State.{State}
+use Rattle.model.specs.State.{Kind, State}
 use Rattle.model.specs.Bytes.{image, write}
 use Rattle.model.specs.Moves.{ownedBy}
 use Rattle.model.proofs.Tests.{le?, holds?, bool-ext, T-true, or-cases, or-left, or-right}
@@ -54,12 +54,12 @@ among-wider h k a b l w t = let r = among-is h k a w t in among-of h k b w (r .0
 among-none : (h : ℕ → Bool) (k w : ℕ) → T (among h k 0 w) → ⊥
 among-none h k w t = let r = among-is h k 0 w t in omega (arith, r .1, r .2)
 
-module _ {S : Shape} {s : State} {u : ℕ} {h : ℕ → Bool} (q : Takes S s u h) where
+module _ {K : Kind} {s : State} {u : ℕ} {h : ℕ → Bool} (q : Takes K s u h) where
   -- the shape of its bytes
   abbrev of : Shape
   of = s .kind .shape
 
-  in-word : (k : ℕ) → Takes S s u (among h k 64)
+  in-word : (k : ℕ) → Takes K s u (among h k 64)
   in-word k = takes-some q (among h k 64) (λ w t. among-is h k 64 w t .0)
 
   small : (w : ℕ) → w < s .n → w < of .most

@@ -4,8 +4,7 @@ use mathlib.Core.Bool.{Bool, true}
 use mathlib.Core.List.{List}
 use Prim.Native.Nat.{ℕ, _<_}
 use lib.Dec.{T, eqb→eq}
-use Rattle.model.specs.Shape.{Shape}
-use Rattle.model.specs.State.{State, edge}
+use Rattle.model.specs.State.{Kind, State, edge}
 use Rattle.model.specs.Bytes.{read, write}
 use Rattle.model.specs.Change.{reown}
 use Rattle.model.proofs.Tests.{bool-ext, true-T, eqb-yes, and-intro, and-left, and-right}
@@ -29,16 +28,16 @@ module _ (s : State) (r u w : ℕ) where
 -- ---- a taking
 
 -- u may take the edges to the vertices that pass h: each of them owns one
-pub record Takes (S : Shape) (s : State) (u : ℕ) (h : ℕ → Bool) : Type 0 where
-  pub proper : Proper S s
+pub record Takes (K : Kind) (s : State) (u : ℕ) (h : ℕ → Bool) : Type 0 where
+  pub proper : Proper K s
   pub within : u < s .n
   pub owes : (w : ℕ) → T (h w) → T (s .owns w u)
 
-pub takes-rank : {S : Shape} {s : State} → Proper S s → (r u : ℕ) → u < s .n → Takes S s u (ownerAt s r u)
+pub takes-rank : {K : Kind} {s : State} → Proper K s → (r u : ℕ) → u < s .n → Takes K s u (ownerAt s r u)
 takes-rank {s = s} p r u l = record { proper = p; within = l; owes = λ w t. owner-is s r u w t .0 }
 
 -- some of these edges
-pub takes-some : {S : Shape} {s : State} {u : ℕ} {h : ℕ → Bool} → Takes S s u h → (g : ℕ → Bool) → ((w : ℕ) → T (g w) → T (h w)) → Takes S s u g
+pub takes-some : {K : Kind} {s : State} {u : ℕ} {h : ℕ → Bool} → Takes K s u h → (g : ℕ → Bool) → ((w : ℕ) → T (g w) → T (h w)) → Takes K s u g
 takes-some q g f = record { proper = q .proper; within = q .within; owes = λ w t. q .owes w (f w t) }
 
 -- the same edges
@@ -46,7 +45,7 @@ pub took-ext : (g h : ℕ → Bool) (u : ℕ) (s : State) → ((w : ℕ) → T (
     → tookFrom g u s ≡ tookFrom h u s
 took-ext g h u s f b = ap (λ (p : ℕ → Bool). tookFrom p u s) (fun-ext (λ w. bool-ext (g w) (h w) (f w) (b w)))
 
-module _ {S : Shape} {s : State} {u : ℕ} {h : ℕ → Bool} (q : Takes S s u h) where
+module _ {K : Kind} {s : State} {u : ℕ} {h : ℕ → Bool} (q : Takes K s u h) where
   pub takes-not : T (h u) → ⊥
   takes-not t = q .proper .no-loop u (q .owes u t)
 
@@ -54,7 +53,7 @@ module _ {S : Shape} {s : State} {u : ℕ} {h : ℕ → Bool} (q : Takes S s u h
   unfolding tookFrom
   takes-edge = turned-edge s (q .proper) u h true (λ w t. edge-back s u w (q .owes w t))
 
-  pub takes-proper : Proper S (tookFrom h u s)
+  pub takes-proper : Proper K (tookFrom h u s)
   unfolding tookFrom
   takes-proper = turned-proper s (q .proper) u h true (λ w t. edge-back s u w (q .owes w t))
 
@@ -103,8 +102,8 @@ module _ {S : Shape} {s : State} {u : ℕ} {h : ℕ → Bool} (q : Takes S s u h
   takes-more g r n a b c = ap (reown s) (owned-both u h true (s .owns) takes-not g r n a b c)
 
   -- bytes that hold the state then
-  pub takes-read : {bs : List ℕ} → bs ≡ write (tookFrom h u s) → read S bs ≡ tookFrom h u s
+  pub takes-read : {bs : List ℕ} → bs ≡ write (tookFrom h u s) → read (K .shape) bs ≡ tookFrom h u s
   takes-read {bs} e = reads-as bs (tookFrom h u s) e takes-proper
 
-  pub takes-held : {bs : List ℕ} → bs ≡ write (tookFrom h u s) → Held S bs
+  pub takes-held : {bs : List ℕ} → bs ≡ write (tookFrom h u s) → Held (K .shape) bs
   takes-held {bs} e = held-of bs (tookFrom h u s) e takes-proper

@@ -5,22 +5,23 @@ use mathlib.Core.List.{List}
 use Prim.Native.Nat.{ℕ, suc, _≤_, _<_}
 use lib.Dec.{T, eqb}
 use Rattle.model.specs.Shape.{Shape, GoodShape}
-use Rattle.model.specs.State.{base, State, near}
-use Rattle.model.specs.Bytes.{read, write}
+use Rattle.model.specs.State.{Kind, InRange, State, near}
+use Rattle.model.specs.Bytes.{kindAt, read, write}
 use Rattle.model.specs.Counting.{upd}
 use Rattle.model.specs.Moves.{ownedBy}
 use Rattle.model.specs.Change.{reown}
 
--- the conditions of a valid state that no step breaks: a good shape with room for the levels, nothing stands past n, ranks and mates are in range, each edge has one owner
-pub record Proper (S : Shape) (s : State) : Type 0 where
-  pub shape : s .kind .shape ≡ S
+-- the conditions of a valid state that no step breaks: it is of a given kind, whose shape is good and whose settings are in their ranges, nothing stands
+-- past n, ranks and mates are in range, each edge has one owner
+pub record Proper (K : Kind) (s : State) : Type 0 where
+  pub kind : s .kind ≡ K
   pub good : GoodShape (s .kind .shape)
-  pub room : base .top < s .kind .shape .levels
+  pub range : InRange (s .kind)
   pub few : s .n ≤ s .kind .shape .most
   pub inside : (v w : ℕ) → T (s .owns v w) → (v < s .n) × (w < s .n)
   pub past-rank : (v : ℕ) → s .n ≤ v → s .rank v ≡ 0
   pub past-mate : (v : ℕ) → s .n ≤ v → s .mate v ≡ v
-  pub ranks : (v : ℕ) → s .rank v ≤ suc (base .top)
+  pub ranks : (v : ℕ) → s .rank v ≤ suc (s .kind .top)
   pub mates : (v : ℕ) → v < s .n → s .mate v < s .n
   pub no-loop : (v : ℕ) → T (s .owns v v) → ⊥
   pub owned-once : (v w : ℕ) → T (s .owns v w) → T (s .owns w v) → ⊥
@@ -32,7 +33,7 @@ Ordered s = (v w : ℕ) → T (s .owns v w) → s .rank w ≤ s .rank v
 -- the bytes are the writing of a proper state
 pub record Held (S : Shape) (bs : List ℕ) : Type 0 where
   pub written : bs ≡ write (read S bs)
-  pub proper : Proper S (read S bs)
+  pub proper : Proper (kindAt S bs) (read S bs)
 
 -- w, of rank q, owns an edge to u
 unfoldable pub ownerAt : State → ℕ → ℕ → ℕ → Bool

@@ -2,12 +2,12 @@
 // definition's state, that of a step the same of an image whose counts are half adjusted.
 ghost use mathlib.Core.Path.{_≡_};
 ghost use mathlib.Core.Logic.{_≢_};
-ghost use Prim.Native.Nat.{ℕ, suc, _+_, _*_, _<_, _≤_};
+ghost use Prim.Native.Nat.{ℕ, suc, _+_, _*_, _^_, _<_, _≤_};
 ghost use lib.Dec.{T};
 ghost use Rattle.model.specs.Shape.{low};
 ghost use Rattle.model.specs.Counting.{count};
-ghost use Rattle.model.specs.State.{base, below, phi};
-ghost use Rattle.model.specs.Bytes.{phiAt, image, fieldsOf, read, write};
+ghost use Rattle.model.specs.State.{below, phi};
+ghost use Rattle.model.specs.Bytes.{growthAt, topAt, phiAt, image, fieldsOf, read, write};
 ghost use Rattle.model.specs.Moves.{part as parted, rise as risen, marry as paired, handOver};
 ghost use Rattle.model.proofs.Facts.{Says};
 ghost use Rattle.theory.specs.Handing.{handedOn};
@@ -126,7 +126,7 @@ pub fn step_counts(rack: &mut [u8], w: usize, j: usize, k: usize, more: bool)
 // The counts of the vertices to which u owns an edge lose u, which leaves its level for level i.
 fn lower_counts(rack: &mut [u8], u: usize, i: usize)
     requires { ⌜ Held low (now rack) ⌝ }
-    requires { ⌜ (u < read low (now rack) .n) × (read low (now rack) .rank u ≤ i) × (i ≤ base .top) ⌝ }
+    requires { ⌜ (u < read low (now rack) .n) × (read low (now rack) .rank u ≤ i) × (i ≤ topAt (now rack)) ⌝ }
     requires { ⌜ RowBelow i u (read low (now rack)) ⌝ }
     ensures { λ _. ⌜ now (rack .exit) ≡ image (withCounts (fieldsOf (read low (now (rack .entry)))) (loweredCounts (read low (now (rack .entry))) i u)) ⌝ }
 {
@@ -160,7 +160,7 @@ fn zero_counts(rack: &mut [u8], u: usize, k: usize)
 // u stands at level i: the second half of a rise, once its edges to the vertices below i are its own.
 fn enter(rack: &mut [u8], u: usize, i: usize)
     requires { ⌜ Held low (now rack) ⌝ }
-    requires { ⌜ (u < read low (now rack) .n) × (read low (now rack) .rank u ≤ i) × (i ≤ base .top) ⌝ }
+    requires { ⌜ (u < read low (now rack) .n) × (read low (now rack) .rank u ≤ i) × (i ≤ topAt (now rack)) ⌝ }
     requires { ⌜ RowBelow i u (read low (now rack)) ⌝ }
     ensures { λ _. ⌜ now (rack .exit) ≡ write (ranked u (suc i) (read low (now (rack .entry)))) ⌝ }
 {
@@ -172,7 +172,7 @@ fn enter(rack: &mut [u8], u: usize, i: usize)
 // "Rise of u to i: u takes ownership of every link to a board then below i. Other owners stand."
 pub fn rise(rack: &mut [u8], u: usize, i: usize)
     requires { ⌜ (Held low (now rack)) × (Ordered (read low (now rack))) ⌝ }
-    requires { ⌜ (u < read low (now rack) .n) × (read low (now rack) .rank u ≤ i) × (i ≤ base .top) ⌝ }
+    requires { ⌜ (u < read low (now rack) .n) × (read low (now rack) .rank u ≤ i) × (i ≤ topAt (now rack)) ⌝ }
     requires { ⌜ ((w : ℕ) → T (read low (now rack) .owns u w) → read low (now rack) .rank w ≤ i) ⌝ }
     ensures { λ _. ⌜ now (rack .exit) ≡ write (risen i u (read low (now (rack .entry)))) ⌝ }
 {
@@ -183,19 +183,19 @@ pub fn rise(rack: &mut [u8], u: usize, i: usize)
 // The counts at i of the vertices to which v owns an edge gain v, which falls below level i; whether they all stay below the threshold.
 fn raise_counts(rack: &mut [u8], v: usize, i: usize) -> bool
     requires { ⌜ Held low (now rack) ⌝ }
-    requires { ⌜ (v < read low (now rack) .n) × (read low (now rack) .rank v ≡ suc i) × (i ≤ base .top) ⌝ }
+    requires { ⌜ (v < read low (now rack) .n) × (read low (now rack) .rank v ≡ suc i) × (i ≤ topAt (now rack)) ⌝ }
     requires { ⌜ RowBelow i v (read low (now rack)) ⌝ }
     ensures { λ _. ⌜ now (rack .exit) ≡ image (withCounts (fieldsOf (read low (now (rack .entry)))) (raisedCounts (read low (now (rack .entry))) i v)) ⌝ }
-    ensures { λ r. ⌜ Says r ((w : ℕ) → T (read low (now (rack .entry)) .owns v w) → raisedCounts (read low (now (rack .entry))) i v w i < base .thr i) ⌝ }
+    ensures { λ r. ⌜ Says r ((w : ℕ) → T (read low (now (rack .entry)) .owns v w) → raisedCounts (read low (now (rack .entry))) i v w i < growthAt (now (rack .entry)) ^ i) ⌝ }
 {
-    let bar = layout::threshold(i);
+    let bar = layout::settings::threshold(rack, i);
     let mut low = true;
     let mut at = layout::walk::first(rack, v);
     while at.rest != 0 {
         let w = layout::walk::place(at.word, at.rest);
         let c = layout::phi(rack, w, i) + 1;
         layout::set_phi(rack, w, i, c);
-        if bar <= c {
+        if bar <= c as u16 {
             low = false;
         }
         at = layout::walk::next(rack, v, at);
@@ -207,10 +207,10 @@ fn raise_counts(rack: &mut [u8], v: usize, i: usize) -> bool
 // threshold.
 pub fn fall(rack: &mut [u8], v: usize, i: usize, k: usize) -> bool
     requires { ⌜ Held low (now rack) ⌝ }
-    requires { ⌜ (v < read low (now rack) .n) × (read low (now rack) .rank v ≡ suc i) × (i ≤ base .top) ⌝ }
+    requires { ⌜ (v < read low (now rack) .n) × (read low (now rack) .rank v ≡ suc i) × (i ≤ topAt (now rack)) ⌝ }
     requires { ⌜ (RowBelow i v (read low (now rack))) × (k ≡ below (read low (now rack)) v i) ⌝ }
     ensures { λ _. ⌜ now (rack .exit) ≡ write (ranked v i (read low (now (rack .entry)))) ⌝ }
-    ensures { λ r. ⌜ Says r ((w : ℕ) → T (read low (now (rack .entry)) .owns v w) → phi (ranked v i (read low (now (rack .entry)))) w i < base .thr i) ⌝ }
+    ensures { λ r. ⌜ Says r ((w : ℕ) → T (read low (now (rack .entry)) .owns v w) → phi (ranked v i (read low (now (rack .entry)))) w i < growthAt (now (rack .entry)) ^ i) ⌝ }
 {
     let low = raise_counts(rack, v, i);
     layout::set_phi(rack, v, i, k as u8);

@@ -5,8 +5,7 @@ ghost use Prim.Native.Nat.{ℕ, _+_, _*_, _<_, _≤_};
 ghost use lib.Dec.{T};
 ghost use Rattle.model.specs.Shape.{low};
 ghost use Rattle.model.specs.Counting.{count};
-ghost use Rattle.model.specs.State.{base};
-ghost use Rattle.model.specs.Bytes.{read, write};
+ghost use Rattle.model.specs.Bytes.{topAt, read, write};
 ghost use Rattle.bitset.specs.Words.{Rest};
 ghost use Rattle.moves.specs.Proper.{Ordered, Held, ownerAt, tookFrom, tookOver};
 ghost use Rattle.moves.specs.Handing.{inWord};
@@ -85,7 +84,7 @@ fn take_rank(rack: &mut [u8], u: usize, q: usize, missing: usize) -> usize
 // owners are still to be found, so that the search needs no other end. An owner's rank is at least u's, so it begins with the roster of that.
 pub fn take_over(rack: &mut [u8], u: usize, i: usize)
     requires { ⌜ (Held low (now rack)) × (Ordered (read low (now rack))) ⌝ }
-    requires { ⌜ (u < read low (now rack) .n) × (read low (now rack) .rank u ≤ i) × (i ≤ base .top) ⌝ }
+    requires { ⌜ (u < read low (now rack) .n) × (read low (now rack) .rank u ≤ i) × (i ≤ topAt (now rack)) ⌝ }
     requires { ⌜ ((w : ℕ) → T (read low (now rack) .owns u w) → read low (now rack) .rank w ≤ i) ⌝ }
     ensures { λ _. ⌜ now (rack .exit) ≡ write (tookOver i u (read low (now (rack .entry)))) ⌝ }
 {

@@ -8,7 +8,7 @@ use lib.ListN.{length, length-append}
 use Rattle.model.specs.Text.{bytes, decimal, largest}
 use Rattle.model.specs.State.{State}
 use Rattle.model.specs.Change.{Answer}
-use Rattle.model.specs.Trace.{rackLine}
+use Rattle.model.specs.Trace.{short, long, settingsText, rackLine}
 use Rattle.model.specs.Record.{answerLine, pairLine, endText}
 use Rattle.model.specs.Run.{badLine}
 use Rattle.text.specs.Writing.{Put}
@@ -52,9 +52,9 @@ unfolding oneText
 one-written p x e w x′ h = put-one-as p x x′ e h (put-as _ _ (append-assoc p (decimal x) e) w)
 
 pub rack-written : (x : ℕ) {old new : List ℕ} {k : ℕ} → Put (piece (bytes "(rack (boards ") x ++ bytes "))\n") old new k
-    → (x′ : ℕ) → x ≡ x′ → Put (rackLine x′) old new k
-unfolding piece rackLine
-rack-written x w x′ h = put-as _ _ (simp append-assoc (λ t. rackLine (h t))) w
+    → (x′ : ℕ) → x ≡ x′ → Put (rackLine x′ short) old new k
+unfolding piece rackLine settingsText
+rack-written x w x′ h = put-as _ _ (simp append-assoc (λ t. rackLine (h t) short)) w
 
 pub bad-written : (x y : ℕ) {old new : List ℕ} {k : ℕ} → Put ((piece (bytes "(bad ") x ++ piece (bytes " ") y) ++ bytes ")\n") old new k
     → (x′ y′ : ℕ) → x ≡ x′ → y ≡ y′ → Put (badLine x′ y′) old new k
@@ -79,6 +79,11 @@ pub end-parts : (x y z : ℕ)
     → threeText (bytes "(end (pairs ") x (bytes ") (mean ") y (bytes " ") z (bytes "))\n") ≡ endText x (meanOf y z)
 unfolding threeText endText
 end-parts x y z = refl
+
+pub long-parts : (n growth top : ℕ)
+    → threeText (bytes "(rack (boards ") n (bytes ") (growth ") growth (bytes ") (top ") top (bytes "))\n") ≡ rackLine n (long growth top)
+unfolding threeText rackLine settingsText
+long-parts n growth top = simp append-assoc
 
 pub answer-done : (x : Answer) → x .number ≡ 0 → answerLine x ≡ doneText (x .draws) (x .falls) (x .pairs)
 unfolding threeText

@@ -2,11 +2,11 @@
 // their values. "each line is put straight after the one before it in the record space": a caller lends the rest of the space.
 ghost use Prim.Native.Nat.{_≤_};
 ghost use lib.ListN.{length};
-ghost use Rattle.model.specs.Trace.{rackLine};
+ghost use Rattle.model.specs.Trace.{short, long, rackLine};
 ghost use Rattle.model.specs.Record.{answerLine, endText, blankRecord};
 ghost use Rattle.model.specs.Run.{badLine};
 ghost use Rattle.text.specs.Writing.{Put};
-ghost use Rattle.text.specs.Rooms.{rackRoom, answerRoom, pairRoom, endRoom, badRoom};
+ghost use Rattle.text.specs.Rooms.{shortRoom, rackRoom, answerRoom, pairRoom, endRoom, badRoom};
 ghost use Rattle.record.specs.Line.{piece, answered, doneText, refusedText, pairText, meanOf};
 
 // Writes the fixed text p and a figure after it.
@@ -18,13 +18,24 @@ fn put_piece(out: &mut [u8], p: &[u8], x: u32) -> usize
     a + text::put_number(&mut out[a..], x)
 }
 
-// Writes line 1, which the record repeats from the trace.
+// Writes line 1, which the record repeats from the trace, in its short form.
 pub fn put_rack(out: &mut [u8], n: u32) -> usize
-    requires { ⌜ rackRoom ≤ length (now out) ⌝ }
-    ensures { λ r. ⌜ Put (rackLine n) (now (out .entry)) (now (out .exit)) r ⌝ }
+    requires { ⌜ shortRoom ≤ length (now out) ⌝ }
+    ensures { λ r. ⌜ Put (rackLine n short) (now (out .entry)) (now (out .exit)) r ⌝ }
 {
     let a = put_piece(out, b"(rack (boards ", n);
     a + text::put_literal(&mut out[a..], b"))\n")
+}
+
+// Writes line 1 in its long form.
+pub fn put_rack_with(out: &mut [u8], n: u32, growth: u32, top: u32) -> usize
+    requires { ⌜ rackRoom ≤ length (now out) ⌝ }
+    ensures { λ r. ⌜ Put (rackLine n (long growth top)) (now (out .entry)) (now (out .exit)) r ⌝ }
+{
+    let i = put_piece(out, b"(rack (boards ", n);
+    let j = i + put_piece(&mut out[i..], b") (growth ", growth);
+    let k = j + put_piece(&mut out[j..], b") (top ", top);
+    k + text::put_literal(&mut out[k..], b"))\n")
 }
 
 // The lines of a change and of a pair are printed most. Their fixed texts stand where they are written, so that each writer is compiled in with

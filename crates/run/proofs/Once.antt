@@ -4,30 +4,27 @@ use mathlib.Core.Path.{_≡_, refl, sym, ap, _∙_, subst}
 use mathlib.Core.Logic.{_≢_}
 use mathlib.Core.Bool.{Bool, true, false}
 use mathlib.Core.List.{List, [], _++_}
-use Prim.Native.Nat.{ℕ, suc, _+_, _≤_}
+use Prim.Native.Nat.{ℕ, zero, suc, _+_, _≤_}
 use native.Mathlib.Omega.{arith}
 use lib.Dec.{ltb}
 use lib.ListN.{length, take, drop, length-append, take-append-drop}
 use lib.Seq.{length-take-le}
 use native.Mathlib.Nat.{zero-add}
 use Rattle.model.specs.Shape.{low}
-use Rattle.model.specs.State.{Rules, lowKind, base, empty}
 use Rattle.model.specs.Bytes.{write}
-use Rattle.model.specs.Sound.{sizeGood}
-use Rattle.model.specs.Calls.{sized}
+use Rattle.model.specs.Calls.{sized, askedNumber}
 use Rattle.model.specs.Text.{over}
 use Rattle.model.specs.Trace.{Trace, Holds, linesOf, FirstBad}
-use Rattle.model.specs.Record.{after, recordText, blankRecord}
-use Rattle.model.specs.Run.{Ran, rack-length, text-long, space-short, blank, bad-line, bad-size, ran}
+use Rattle.model.specs.Record.{kindOf, lastOf, recordText, blankRecord}
+use Rattle.model.specs.Run.{Ran, rack-length, text-long, space-short, blank, bad-line, bad-asked, ran}
 use Rattle.model.specs.Run.{RunAnswer, turnedBack, recorded, longest, spaceLength, badLine, output}
 use Rattle.model.proofs.Tests.{eqb-yes, eqb-no, leb-yes, leb-no}
 use Rattle.text.specs.Writing.{Put}
 use Rattle.text.proofs.Over.{put-as}
 use Rattle.trace.proofs.Whole.{trace-same, trace-fits, first-bad-same, first-bad-within, blank-no-trace, blank-no-bad}
 use Rattle.trace.proofs.Decide.{Kind, blank-text, trace-text, bad-text, kind-of}
-use Rattle.trace.proofs.RecordFits.{record-fits-base}
+use Rattle.trace.proofs.RecordFits.{record-fits-low}
 use Rattle.run.specs.Recording.{Shown}
-use Rattle.run.proofs.Whole.{size-range}
 
 -- what a run answers, and the bytes of rack and space after it
 pub record Outcome : Type 0 where
@@ -35,7 +32,7 @@ pub record Outcome : Type 0 where
   pub rack : List ℕ
   pub space : List ℕ
 
-module _ (R : Rules) (rack text space : List ℕ) where
+module _ (rack text space : List ℕ) where
   back : ℕ → ℕ → Outcome
   back k line = record { answer = turnedBack k line; rack = rack; space = space }
 
@@ -43,15 +40,19 @@ module _ (R : Rules) (rack text space : List ℕ) where
   done : List ℕ → List ℕ → Outcome
   done p last = record { answer = recorded p; rack = last; space = over 0 p space }
 
-  -- by the board number
-  abbrev sizes : Trace → Bool → Outcome
-  sizes t true = done (recordText R t) (write (after R (empty lowKind (t .n)) (t .changes)))
-  sizes t false = back 5 0
+  -- by the number of what line 1 asks for
+  abbrev asks : Trace → ℕ → Outcome
+  asks t zero = done (recordText t) (write (lastOf t))
+  asks t (suc k) = back (suc k) 0
 
-  -- by the text: the record of a blank paper, that of its trace, or 5, or 4 with its first line that doesn't fit
+  asks-back : (t : Trace) (k : ℕ) → k ≢ 0 → asks t k ≡ back k 0
+  asks-back t zero d = absurd (d refl)
+  asks-back t (suc k) d = refl
+
+  -- by the text: the record of a blank paper, that of its trace, or 5 or 13, or 4 with its first line that doesn't fit
   read : Kind text → Outcome
   read (blank-text e) = done blankRecord rack
-  read (trace-text t h) = sizes t (sizeGood low (t .n))
+  read (trace-text t h) = asks t (askedNumber (kindOf t) (t .n))
   read (bad-text k b) = back 4 k
 
   -- by the three lengths
@@ -71,10 +72,10 @@ module _ (R : Rules) (rack text space : List ℕ) where
   read-blank (trace-text t h) e = absurd (blank-no-trace text t e h)
   read-blank (bad-text k b) e = absurd (blank-no-bad text k e b)
 
-  read-holds : (d : Kind text) (t : Trace) → Holds text t → read d ≡ sizes t (sizeGood low (t .n))
+  read-holds : (d : Kind text) (t : Trace) → Holds text t → read d ≡ asks t (askedNumber (kindOf t) (t .n))
   unfolding read
   read-holds (blank-text e) t h = absurd (blank-no-trace text t e h)
-  read-holds (trace-text u g) t h = ap (λ (x : Trace). sizes x (sizeGood low (x .n))) (trace-same text u t g h)
+  read-holds (trace-text u g) t h = ap (λ (x : Trace). asks x (askedNumber (kindOf x) (x .n))) (trace-same text u t g h)
   read-holds (bad-text k b) t h = absurd (trace-fits text t k h b)
 
   read-bad : (d : Kind text) (k : ℕ) → FirstBad (linesOf text) k → read d ≡ back 4 k
@@ -91,7 +92,7 @@ module _ (R : Rules) (rack text space : List ℕ) where
       let q : ltb (length space) spaceLength ≡ false = leb-no (suc (length space)) spaceLength (omega (arith, w)) in
       λ i. chosen (z i) (p i) (q i) (read (kind-of text))
 
-  is : {a : RunAnswer} {x y : List ℕ} → Ran R rack text space a x y → outcome ≡ record { answer = a; rack = x; space = y }
+  is : {a : RunAnswer} {x y : List ℕ} → Ran rack text space a x y → outcome ≡ record { answer = a; rack = x; space = y }
   unfolding chosen back done
   is (rack-length z) = λ i. chosen (z i) (ltb longest (length text)) (ltb (length space) spaceLength) (read (kind-of text))
   is (text-long z s) =
@@ -103,37 +104,36 @@ module _ (R : Rules) (rack text space : List ℕ) where
       λ i. chosen (z i) (p i) (q i) (read (kind-of text))
   is (blank z e w) = taken z (omega (arith, ap length e)) w ∙ read-blank (kind-of text) e
   is (bad-line {line} z s w b) = taken z s w ∙ read-bad (kind-of text) line b
-  is (bad-size {t} z s w h e) = taken z s w ∙ read-holds (kind-of text) t h ∙ ap (sizes t) e
-  is (ran {t} z s w h e) = taken z s w ∙ read-holds (kind-of text) t h ∙ ap (sizes t) e
+  is (bad-asked {t} z s w h d) = taken z s w ∙ read-holds (kind-of text) t h ∙ asks-back t (askedNumber (kindOf t) (t .n)) d
+  is (ran {t} z s w h e) = taken z s w ∙ read-holds (kind-of text) t h ∙ ap (asks t) e
 
   -- two runs of the same bytes answer the same and leave the same
-  pub ran-once : {a b : RunAnswer} {x y u v : List ℕ} → Ran R rack text space a x y → Ran R rack text space b u v
+  pub ran-once : {a b : RunAnswer} {x y u v : List ℕ} → Ran rack text space a x y → Ran rack text space b u v
       → (a ≡ b) × (x ≡ u) × (y ≡ v)
   ran-once g h =
       let e = sym (is g) ∙ is h in
       (ap (λ (o : Outcome). o .answer) e, ap (λ (o : Outcome). o .rack) e, ap (λ (o : Outcome). o .space) e)
 
   -- the line of an answer fits 32 bits
-  pub line-few : {a : RunAnswer} {x y : List ℕ} → Ran R rack text space a x y → a .line ≤ longest
+  pub line-few : {a : RunAnswer} {x y : List ℕ} → Ran rack text space a x y → a .line ≤ longest
   line-few (rack-length z) = omega arith
   line-few (text-long z s) = omega arith
   line-few (space-short z s w) = omega arith
   line-few (blank z e w) = omega arith
   line-few (bad-line {line} z s w b) = omega (arith, s, first-bad-within text line b)
-  line-few (bad-size z s w h e) = omega arith
+  line-few (bad-asked z s w h d) = omega arith
   line-few (ran z s w h e) = omega arith
 
 -- the record that an answer tells of fits its space
-length-few : {rack text space : List ℕ} {a : RunAnswer} {x y : List ℕ} → Ran base rack text space a x y → a .length ≤ spaceLength
+length-few : {rack text space : List ℕ} {a : RunAnswer} {x y : List ℕ} → Ran rack text space a x y → a .length ≤ spaceLength
 length-few (rack-length z) = omega arith
 length-few (text-long z s) = omega arith
 length-few (space-short z s w) = omega arith
 length-few (blank z e w) = omega arith
 length-few (bad-line z s w b) = omega arith
-length-few (bad-size z s w h e) = omega arith
+length-few (bad-asked z s w h d) = omega arith
 length-few (ran {t} z s w h e) =
-    let r = size-range (t .n) e in
-    record-fits-base t (r .0) (r .1) (h .changes-fit) (subst (λ (l : List ℕ). length l ≤ longest) (h .printed) s)
+    record-fits-low t e (h .changes-fit) (subst (λ (l : List ℕ). length l ≤ longest) (h .printed) s)
 
 -- What is printed.
 
@@ -150,7 +150,7 @@ put-front-again space p {r} e h = record {
 }
 
 -- the record stands there already, or the answer's line was put there
-module _ {rack text old last space : List ℕ} {a : RunAnswer} (h : Ran base rack text old a last space) where
+module _ {rack text old last space : List ℕ} {a : RunAnswer} (h : Ran rack text old a last space) where
   pub shown-record : a .number ≡ 0 → spaceLength ≤ length space → Shown rack text old last space (a .length)
   unfolding output
   shown-record e wide =

@@ -11,17 +11,17 @@ use lib.ListN.{length, take, drop}
 use lib.Seq.{take-at}
 use Rattle.model.specs.Counting.{each}
 use Rattle.model.specs.Shape.{Shape, low}
-use Rattle.model.specs.State.{State, lowKind, base, empty, edge, edges, pairs}
-use Rattle.model.specs.Bytes.{rankAt, mateAt, read, write}
-use Rattle.model.specs.Sound.{sizeGood}
+use Rattle.model.specs.State.{Rules, Kind, rules, State, empty, edge, edges, pairs}
+use Rattle.model.specs.Bytes.{growthAt, topAt, rankAt, mateAt, read, write}
 use Rattle.model.specs.Text.{bytes, decimal, over}
 use Rattle.model.specs.Change.{Change, Changed, change}
-use Rattle.model.specs.Calls.{ChangedBytes, changeBytes}
+use Rattle.model.specs.Calls.{askedNumber, ChangedBytes, changeBytes}
 use Rattle.model.specs.Ledger.{Ledger, Told, links, ledgerNumber, entered, enteredAll}
 use Rattle.model.specs.Trace.{Trace, rackLine}
-use Rattle.model.specs.Record.{answerLine, pairLine, pairLines, mean, endText, endLine, after, changesText, recordText, blankRecord}
-use Rattle.model.specs.Run.{Ran, rack-length, text-long, space-short, blank, bad-line, bad-size, ran, RunAnswer as AnswerOf}
+use Rattle.model.specs.Record.{answerLine, pairLine, pairLines, mean, endText, endLine, after, changesText, kindOf, rackOf, lastOf, recordText, blankRecord}
+use Rattle.model.specs.Run.{Ran, rack-length, text-long, space-short, blank, bad-line, bad-asked, ran, RunAnswer as AnswerOf}
 use Rattle.model.proofs.Tests.{eq?, le?, true-T, and-intro, and-left, and-right, eqb-yes}
+use Rattle.model.proofs.Fields.{growth-write, top-write}
 use Rattle.model.proofs.Chunks.{each-ext, each-none, each-only}
 use Rattle.model.proofs.Lists.{listed-texts}
 use Rattle.theory.specs.Demand.{lastRack, toldOf, toldAll, isPair, pairsOf, Mates, Call, Calls, Facts, Demand}
@@ -35,13 +35,12 @@ use Rattle.record.specs.Line.{answered, pairText}
 use Rattle.changes.specs.Sounded.{Sounded}
 use Rattle.changes.proofs.Wholes.{sounded-held}
 use Rattle.moves.proofs.Held.{held-few}
-use Rattle.trace.proofs.RecordFits.{LowValid, low-keeps}
+use Rattle.trace.proofs.RecordFits.{LowValid, asked-valid, low-keeps}
 use Rattle.run.specs.Recording.{pairPart, told}
 use Rattle.run.specs.declared.RunAnswer.{RunAnswer}
-use Rattle.run.specs.RunDemand.{freshLedger, lastLedger, answerBy, changesBy, pairsBy, endingBy, RunDemand, RunDemanded, of-blank, of-trace}
+use Rattle.run.specs.RunDemand.{freshRack, freshLedger, lastLedger, answerBy, changesBy, pairsBy, endingBy, RunDemand, RunDemanded, of-blank, of-trace}
 use Rattle.run.proofs.Pairs.{shown, left-out, part-free, part-upper, part-line}
 use Rattle.run.proofs.Turns.{rack-of-low, sounded-read}
-use Rattle.run.proofs.Whole.{empty-good}
 
 -- A change's line is the ledger's: refused, it shows the number alone, and accepted, its pairs are the ledger's.
 line-by : {l : Ledger} {bs : List ℕ} {c : Change} {d : ChangedBytes} → Call low l bs c d
@@ -112,32 +111,34 @@ module _ (l : Ledger) (bs : List ℕ) (ok : Sounded low bs) (F : Facts low l bs)
 
 -- The record of a list of changes, from the bytes of a valid state, with its own ledger.
 
--- what `theory` says of it, at the shape that it has
-module _ (s : State) (ok : LowValid s) where
+-- what `theory` says of it by its own kind, at the shape and the rules that it has
+module _ {K : Kind} (s : State) (ok : LowValid K s) where
   rack : Rack s
   rack = rack-of-low s ok
 
+  at-low : (P : Shape → Rules → Type 0) → P (s .kind .shape) (rules (s .kind)) → P low (rules K)
+  at-low P h = subst (λ (S : Shape). P S (rules K)) (ok .shape) (subst (λ (L : Kind). P (L .shape) (rules L)) (ok .kind) h)
+
   facts-of : Facts low (ledger s) (write s)
-  facts-of = subst (λ (S : Shape). Facts S (ledger s) (write s)) (ok .shape) (last-facts s rack)
+  facts-of = at-low (λ S R. Facts S (ledger s) (write s)) (last-facts s rack)
 
   pairs-low : pairs s ≡ pairsOf low (ledger s) (write s)
-  pairs-low = subst (λ (S : Shape). pairs s ≡ pairsOf S (ledger s) (write s)) (ok .shape) (pairs-of s rack)
+  pairs-low = at-low (λ S R. pairs s ≡ pairsOf S (ledger s) (write s)) (pairs-of s rack)
 
   -- what a change of it answers, the bytes that it leaves, and its new pairs
-  abbrev leaves : Change → ChangedBytes
-  leaves c = let d = change base s c in record { answer = d .answer; rack = write (d .state); news = d .news }
+  abbrev leaves : Rules → Change → ChangedBytes
+  leaves R c = let d = change R s c in record { answer = d .answer; rack = write (d .state); news = d .news }
 
-  leaves-low : (c : Change) → changeBytes base low (write s) c ≡ leaves c
-  leaves-low c = subst (λ (S : Shape). changeBytes base S (write s) c ≡ leaves c) (ok .shape) (call-leaves s rack c)
+  leaves-low : (c : Change) → changeBytes low (write s) c ≡ leaves (rules K) c
+  leaves-low c = at-low (λ S R. changeBytes S (write s) c ≡ leaves R c) (call-leaves s rack c)
 
-  next-low : (c : Change) → ledger (change base s c .state) ≡ entered (ledger s) (toldOf low (write s) c)
-  next-low c =
-      subst (λ (S : Shape). ledger (change base s c .state) ≡ entered (ledger s) (toldOf S (write s) c)) (ok .shape) (sym (next-ledger s rack c))
+  next-low : (c : Change) → ledger (change (rules K) s c .state) ≡ entered (ledger s) (toldOf low (write s) c)
+  next-low c = at-low (λ S R. ledger (change R s c .state) ≡ entered (ledger s) (toldOf S (write s) c)) (sym (next-ledger s rack c))
 
   demand-of : (cs : List Change) → Demand low (ledger s) (write s) cs
-  demand-of cs = subst (λ (S : Shape). Demand S (ledger s) (write s) cs) (ok .shape) (from-valid s rack cs)
+  demand-of cs = at-low (λ S R. Demand S (ledger s) (write s) cs) (from-valid s rack cs)
 
-ending-by : (s : State) → LowValid s → pairLines s ++ endLine s ≡ endingBy (ledger s) (write s)
+ending-by : {K : Kind} (s : State) → LowValid K s → pairLines s ++ endLine s ≡ endingBy (ledger s) (write s)
 unfolding endingBy edges links
 ending-by s ok =
     let p : pairLines s ≡ pairsBy (ledger s) (write s) =
@@ -147,48 +148,61 @@ ending-by s ok =
     ap (λ (k : ℕ). endText k (mean (edges s) (s .n))) (pairs-low s ok) in
     λ i. p i ++ e i
 
-last-by : (s : State) → LowValid s → (cs : List Change) → write (after base s cs) ≡ lastRack low (write s) cs
+last-by : {K : Kind} (s : State) → LowValid K s → (cs : List Change) → write (after (rules K) s cs) ≡ lastRack low (write s) cs
 unfolding after lastRack
 last-by s ok [] = refl
-last-by s ok (c ∷ cs) =
-    last-by (change base s c .state) (low-keeps s c ok) cs
+last-by {K} s ok (c ∷ cs) =
+    last-by (change (rules K) s c .state) (low-keeps s ok c) cs
     ∙ ap (λ (x : ChangedBytes). lastRack low (x .rack) cs) (sym (leaves-low s ok c))
 
-changes-by : (s : State) → LowValid s → (cs : List Change)
-    → changesText base s cs ≡ changesBy (ledger s) (write s) cs ++ endingBy (enteredAll (ledger s) (toldAll low (write s) cs)) (lastRack low (write s) cs)
+-- the rack after the changes is still of that kind, and so its bytes hold the same settings
+kept-low : {K : Kind} (s : State) → LowValid K s → (cs : List Change) → LowValid K (after (rules K) s cs)
+unfolding after
+kept-low s ok [] = ok
+kept-low {K} s ok (c ∷ cs) = kept-low (change (rules K) s c .state) (low-keeps s ok c) cs
+
+settings-of : {K : Kind} (s : State) → LowValid K s → (growthAt (write s) ≡ K .growth) × (topAt (write s) ≡ K .top)
+settings-of s ok =
+    let good = rack-of-low s ok .kind .shape in
+    (growth-write s good ∙ ap (λ (L : Kind). L .growth) (ok .kind), top-write s good ∙ ap (λ (L : Kind). L .top) (ok .kind))
+
+changes-by : {K : Kind} (s : State) → LowValid K s → (cs : List Change)
+    → changesText (rules K) s cs ≡ changesBy (ledger s) (write s) cs ++ endingBy (enteredAll (ledger s) (toldAll low (write s) cs)) (lastRack low (write s) cs)
 unfolding changesText changesBy enteredAll toldAll lastRack Calls
 changes-by s ok [] = ending-by s ok
-changes-by s ok (c ∷ cs) =
-    let d : Changed = change base s c in
-    let x : ChangedBytes = changeBytes base low (write s) c in
+changes-by {K} s ok (c ∷ cs) =
+    let d : Changed = change (rules K) s c in
+    let x : ChangedBytes = changeBytes low (write s) c in
     let t : Told = toldOf low (write s) c in
     let e : ledger (d .state) ≡ entered (ledger s) t = next-low s ok c in
     let f : write (d .state) ≡ x .rack = ap (λ (y : ChangedBytes). y .rack) (sym (leaves-low s ok c)) in
     let now : answerLine (d .answer) ≡ answerLine (answerBy (ledger s) t x) =
     ap (λ (y : ChangedBytes). answerLine (y .answer)) (sym (leaves-low s ok c)) ∙ line-by (demand-of s ok (c ∷ []) .calls .0) in
-    let later : changesText base (d .state) cs
+    let later : changesText (rules K) (d .state) cs
     ≡ changesBy (entered (ledger s) t) (x .rack) cs ++ endingBy (enteredAll (entered (ledger s) t) (toldAll low (x .rack) cs)) (lastRack low (x .rack) cs) =
-    changes-by (d .state) (low-keeps s c ok) cs
+    changes-by (d .state) (low-keeps s ok c) cs
     ∙ (λ i. changesBy (e i) (f i) cs ++ endingBy (enteredAll (e i) (toldAll low (f i) cs)) (lastRack low (f i) cs)) in
     (λ i. now i ++ later i) ∙ sym (append-assoc (answerLine (answerBy (ledger s) t x)) (changesBy (entered (ledger s) t) (x .rack) cs) _)
 
--- A trace of 1 to 256 vertices, run from a fresh rack.
-run-demand : (t : Trace) → sizeGood low (t .n) ≡ true → RunDemand t (write (after base (empty lowKind (t .n)) (t .changes))) (recordText base t)
-unfolding recordText lastLedger freshLedger empty edge
+-- A trace that is taken, run from the fresh rack that its line 1 asks for.
+run-demand : (t : Trace) → askedNumber (kindOf t) (t .n) ≡ 0 → RunDemand t (write (lastOf t)) (recordText t)
+unfolding recordText lastLedger freshLedger empty edge kindOf
 run-demand t e =
-    let ok = empty-good (t .n) e in
-    let D : Demand low (freshLedger (t .n)) (write (empty lowKind (t .n))) (t .changes) = demand-of (empty lowKind (t .n)) ok (t .changes) in
-    let left = last-by (empty lowKind (t .n)) ok (t .changes) in
+    let ok : LowValid (kindOf t) (rackOf t) = asked-valid (kindOf t) (t .n) refl e in
+    let D : Demand low (freshLedger (t .n)) (freshRack t) (t .changes) = demand-of (rackOf t) ok (t .changes) in
+    let left = last-by (rackOf t) ok (t .changes) in
     let book : Ledger = lastLedger t in
-    let lines : List ℕ = changesBy (freshLedger (t .n)) (write (empty lowKind (t .n))) (t .changes) in
+    let first : List ℕ = rackLine (t .n) (t .settings) in
+    let lines : List ℕ = changesBy (freshLedger (t .n)) (freshRack t) (t .changes) in
     record {
       demand = D;
       left = left;
       facts = subst (Facts low book) (sym left) (D .last);
-      crowded = crowding book (lastRack low (write (empty lowKind (t .n))) (t .changes)) (D .last);
+      settings = settings-of (lastOf t) (kept-low (rackOf t) ok (t .changes));
+      crowded = crowding book (lastRack low (freshRack t) (t .changes)) (D .last);
       says =
-          ap (λ (x : List ℕ). rackLine (t .n) ++ x) (changes-by (empty lowKind (t .n)) ok (t .changes))
-          ∙ ap (λ (x : List ℕ). rackLine (t .n) ++ (lines ++ endingBy book x)) (sym left);
+          ap (λ (x : List ℕ). first ++ x) (changes-by (rackOf t) ok (t .changes))
+          ∙ ap (λ (x : List ℕ). first ++ (lines ++ endingBy book x)) (sym left);
     }
 
 -- what stands at the start of the space after a run
@@ -196,19 +210,19 @@ front : (p space : List ℕ) → take (length p) (over 0 p space) ≡ p
 unfolding over
 front p space = take-at p (drop (0 + length p) space) (length p) refl
 
-of-ran : {rack text space last new : List ℕ} {a : AnswerOf} → Ran base rack text space a last new → a .number ≡ 0
+of-ran : {rack text space last new : List ℕ} {a : AnswerOf} → Ran rack text space a last new → a .number ≡ 0
     → RunDemanded rack text last (take (a .length) new)
 of-ran (rack-length z) e = absurd (omega arith)
 of-ran (text-long z s) e = absurd (omega arith)
 of-ran (space-short z s w) e = absurd (omega arith)
 of-ran {space = space} (blank z t w) e = of-blank t refl (front blankRecord space)
 of-ran (bad-line z s w b) e = absurd (omega arith)
-of-ran (bad-size z s w h g) e = absurd (omega arith)
+of-ran (bad-asked z s w h d) e = absurd (d e)
 of-ran {space = space} (ran {t} z s w h g) e =
-    of-trace t h (subst (RunDemand t (write (after base (empty lowKind (t .n)) (t .changes)))) (sym (front (recordText base t) space)) (run-demand t g))
+    of-trace t h (subst (RunDemand t (write (lastOf t))) (sym (front (recordText t) space)) (run-demand t g))
 
 -- Whatever bytes `run::run` was lent: if it answers 0, the text is blank, and the rack stays and the record says no pair; or the text holds a
 -- trace, and the record that it tells of, and the rack, are as demand 3 says of that trace.
-pub demand-three-of-run : {rack text space last new : List ℕ} (r : RunAnswer) → Ran base rack text space (told r) last new → r .number ≡ 0
+pub demand-three-of-run : {rack text space last new : List ℕ} (r : RunAnswer) → Ran rack text space (told r) last new → r .number ≡ 0
     → RunDemanded rack text last (take (r .length) new)
 demand-three-of-run r h e = of-ran h e

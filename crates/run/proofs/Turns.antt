@@ -8,14 +8,15 @@ use lib.ListN.{length, getD, take, drop, length-append, length-drop}
 use lib.Seq.{getD-drop, drop-drop, take-at, drop-at}
 use native.Mathlib.Nat.{add-zero}
 use Rattle.model.specs.Shape.{low}
-use Rattle.model.specs.State.{State, base}
-use Rattle.model.specs.Bytes.{read, write}
+use Rattle.model.specs.State.{Rules, Kind, rules, State}
+use Rattle.model.specs.Bytes.{kindAt, rulesAt, read, write}
 use Rattle.model.specs.Text.{texts}
 use Rattle.model.specs.Lists.{All}
 use Rattle.model.specs.Change.{Change, Answer, change}
 use Rattle.model.specs.Trace.{LineChange}
 use Rattle.model.specs.Record.{answerLine, after, changesText}
-use Rattle.theory.proofs.OnBytes.{Rack, low-rack}
+use Rattle.model.proofs.Reading.{read-kind}
+use Rattle.theory.proofs.OnBytes.{Rack, rack-of}
 use Rattle.text.specs.Writing.{Put}
 use Rattle.text.specs.Rooms.{answerRoom, endingRoom}
 use Rattle.text.proofs.Over.{part, back, put-as, put-none, put-then, put-length}
@@ -30,19 +31,20 @@ use Rattle.changes.specs.Sounded.{Sounded, Answers, brought}
 use Rattle.changes.proofs.Answered.{rack-reads, sounded-of}
 use Rattle.run.specs.Recording.{endingText, Ready, Played}
 
--- bytes that write a valid state are sound, and reading them gives it again
-pub rack-of-low : (s : State) → LowValid s → Rack s
-rack-of-low s ok = low-rack s (sym (ok .shape)) (ok .valid)
+-- bytes that write a valid state are sound, and reading them gives it again, and its kind
+pub rack-of-low : {K : Kind} (s : State) → LowValid K s → Rack s
+rack-of-low s ok = rack-of (ok .good) s (sym (ok .kind)) (ok .valid)
 
-pub sounded-read : (bs : List ℕ) (s : State) → bs ≡ write s → LowValid s → Sounded low bs × (read low bs ≡ s)
+pub sounded-read : {K : Kind} (bs : List ℕ) (s : State) → bs ≡ write s → LowValid K s → Sounded low bs × (read low bs ≡ s) × (kindAt low bs ≡ K)
 sounded-read bs s e ok =
     let rack = rack-of-low s ok in
-    (sounded-of bs s (ok .shape) e rack, rack-reads bs s (ok .shape) e rack)
+    let shape = ap (λ (L : Kind). L .shape) (ok .kind) ∙ ok .shape in
+    let reads : read low bs ≡ s = rack-reads bs s shape e rack in
+    (sounded-of bs s shape e rack, reads, sym (read-kind low bs) ∙ ap (λ (x : State). x .kind) reads ∙ ok .kind)
 
 -- and sound bytes read as one
-pub sounded-valid : {bs : List ℕ} → Sounded low bs → LowValid (read low bs)
-unfolding read
-sounded-valid ok = record { shape = refl; valid = ok .valid }
+pub sounded-valid : {bs : List ℕ} → Sounded low bs → LowValid (kindAt low bs) (read low bs)
+sounded-valid {bs} ok = record { shape = refl; good = ok .kind; kind = read-kind low bs; valid = ok .valid }
 
 -- an answer's line was written by figures that are the answer's
 pub line-as : {r : Answered} {x : Answer} {old new : List ℕ} {k : ℕ} → Answers r x
@@ -50,7 +52,7 @@ pub line-as : {r : Answered} {x : Answer} {old new : List ℕ} {k : ℕ} → Ans
 line-as a w = put-as _ _ (λ i. answerLine (answered (a .number i) (a .draws i) (a .falls i) (a .pairs i))) w
 
 -- the lines after those of the changes have room
-ending-fits : (s : State) → LowValid s → length (endingText s) ≤ endingRoom
+ending-fits : {K : Kind} (s : State) → LowValid K s → length (endingText s) ≤ endingRoom
 unfolding endingText
 ending-fits s ok = ending-most s (valid-small s ok)
 
@@ -68,10 +70,10 @@ pub record Going (heads words : List ℕ) (n : ℕ) (rack₀ rack out₀ out : L
   pub words-rest : List ℕ
   pub words-are : drop w words ≡ texts wordsOf rest ++ words-rest
   pub sounded : Sounded low rack
-  pub leaves : after base (read low rack₀) changes ≡ after base (read low rack) rest
+  pub leaves : after (rulesAt rack₀) (read low rack₀) changes ≡ after (rulesAt rack) (read low rack) rest
   pub done : List ℕ
   pub wrote : Put done out₀ out at
-  pub whole : changesText base (read low rack₀) changes ≡ done ++ changesText base (read low rack) rest
+  pub whole : changesText (rulesAt rack₀) (read low rack₀) changes ≡ done ++ changesText (rulesAt rack) (read low rack) rest
   pub room : at + answerRoom * length rest + endingRoom ≤ length out₀
 
 pub going-start : (heads words : List ℕ) (n : ℕ) (rack out : List ℕ) → Sounded low rack → Ready heads words n (length out)
@@ -181,7 +183,7 @@ module _ {heads words rack₀ rack out₀ out : List ℕ} {n k w at : ℕ} (g : 
 
     -- the change was made, and its line written
     pub going-turn : {h : Head} {now last : List ℕ} {m : ℕ} → HeadAt heads k h
-        → let x = change base (read low rack) (brought (h .code) (h .a) (h .b) (take (w + h .count - w) (drop w words))) in
+        → let x = change (rulesAt rack) (read low rack) (brought (h .code) (h .a) (h .b) (take (w + h .count - w) (drop w words))) in
         (now ≡ write (x .state)) × Put (answerLine (x .answer)) (part at out) last m
         → Going heads words n rack₀ now out₀ (back at out last) (k + 1) (w + h .count) (at + m)
     unfolding texts after changesText
@@ -190,12 +192,13 @@ module _ {heads words rack₀ rack out₀ out : List ℕ} {n k w at : ℕ} (g : 
         let s : State = read low rack in
         let is = head-brings (t .next) r in
         let z = head-size (t .next) r in
-        let e : now ≡ write (change base s c .state) = made .0 ∙ ap (λ (x : Change). write (change base s x .state)) is in
-        let line : List ℕ = answerLine (change base s c .answer) in
-        let p = put-as _ line (ap (λ (x : Change). answerLine (change base s x .answer)) is) (made .1) in
-        let (ok, b) = sounded-read now (change base s c .state) e (low-keeps s c (sounded-valid (g .sounded))) in
+        let R : Rules = rulesAt rack in
+        let e : now ≡ write (change R s c .state) = made .0 ∙ ap (λ (x : Change). write (change R s x .state)) is in
+        let line : List ℕ = answerLine (change R s c .answer) in
+        let p = put-as _ line (ap (λ (x : Change). answerLine (change R s x .answer)) is) (made .1) in
+        let (ok, b, same) = sounded-read now (change R s c .state) e (low-keeps s (sounded-valid (g .sounded)) c) in
         let four : 4 * (k + 1) ≡ 4 * k + 4 = omega arith in
-        let few : m ≤ answerRoom = omega (arith, p .count, answer-most _ (valid-figures s c (sounded-valid (g .sounded)) (t .lines .0))) in
+        let few : m ≤ answerRoom = omega (arith, p .count, answer-most _ (valid-figures s (sounded-valid (g .sounded)) c (t .lines .0))) in
         record {
           changes = g .changes;
           kept = g .kept;
@@ -213,14 +216,14 @@ module _ {heads words rack₀ rack out₀ out : List ℕ} {n k w at : ℕ} (g : 
               ∙ ap (drop (length (c .words))) (words-split (t .are))
               ∙ drop-at (c .words) _ (length (c .words)) refl;
           sounded = ok;
-          leaves = g .leaves ∙ ap (after base s) (t .are) ∙ ap (λ (x : State). after base x (t .later)) (sym b);
+          leaves = g .leaves ∙ ap (after R s) (t .are) ∙ sym (λ i. after (rules (same i)) (b i) (t .later));
           done = g .done ++ line;
           wrote = put-then (g .wrote) p done-within;
           whole =
               g .whole
-              ∙ ap (λ (l : List Change). g .done ++ changesText base s l) (t .are)
-              ∙ sym (append-assoc (g .done) line (changesText base (change base s c .state) (t .later)))
-              ∙ ap (λ (x : State). (g .done ++ line) ++ changesText base x (t .later)) (sym b);
+              ∙ ap (λ (l : List Change). g .done ++ changesText R s l) (t .are)
+              ∙ sym (append-assoc (g .done) line (changesText R (change R s c .state) (t .later)))
+              ∙ sym (λ i. (g .done ++ line) ++ changesText (rules (same i)) (b i) (t .later));
           room = omega (arith, g .room, ap length (t .are), few);
         }
 
@@ -241,11 +244,11 @@ module _ {heads words rack₀ rack out₀ out : List ℕ} {n k w at : ℕ} (g : 
     unfolding after changesText endingText
     going-end h =
         let e = rest-none h in
-        let whole = g .whole ∙ ap (λ (l : List Change). g .done ++ changesText base (read low rack) l) e in
+        let whole = g .whole ∙ ap (λ (l : List Change). g .done ++ changesText (rulesAt rack) (read low rack) l) e in
         record {
           changes = g .changes;
           kept = g .kept;
           count = g .count;
-          leaves = g .sounded .written ∙ ap write (sym (g .leaves ∙ ap (after base (read low rack)) e));
+          leaves = g .sounded .written ∙ ap write (sym (g .leaves ∙ ap (after (rulesAt rack) (read low rack)) e));
           prints = put-as _ _ (sym whole) (put-then (g .wrote) p done-within);
         }

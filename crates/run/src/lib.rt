@@ -1,22 +1,26 @@
 // A trace text run to its record. The whole text is read before the rack is made; then each change that was read is made on the rack, and
 // answered by a line straight after the one before it. The rack is made here and stays sound, so no change is audited.
+use layout::settings::SHORT_GROWTH;
+use layout::settings::SHORT_TOP;
+use lines::Settings;
 use trace::Checked;
 ghost use mathlib.Core.Path.{_≡_};
 ghost use mathlib.Core.Bool.{true};
 ghost use Prim.Native.Nat.{_≤_, _<_};
 ghost use lib.ListN.{length};
 ghost use Rattle.model.specs.Shape.{low};
-ghost use Rattle.model.specs.State.{base, lowKind, empty};
-ghost use Rattle.model.specs.Bytes.{read, write};
-ghost use Rattle.model.specs.Sound.{sizeGood};
+ghost use Rattle.model.specs.State.{empty};
+ghost use Rattle.model.specs.Bytes.{rulesAt, read, write};
 ghost use Rattle.model.specs.Change.{change as changeOf};
-ghost use Rattle.model.specs.Calls.{sized as sizedOf};
+ghost use Rattle.model.specs.Calls.{sized as sizedOf, askedNumber, makeNumber, made};
+ghost use Rattle.model.specs.Trace.{rackLine};
 ghost use Rattle.model.specs.Record.{answerLine, pairLines, endLine};
 ghost use Rattle.model.specs.Run.{Ran, spaceLength};
 ghost use Rattle.text.specs.Writing.{Put};
-ghost use Rattle.text.specs.Rooms.{answerRoom, pairRoom, endRoom, endingRoom};
+ghost use Rattle.text.specs.Rooms.{rackRoom, answerRoom, pairRoom, endRoom, endingRoom};
+ghost use Rattle.lines.specs.Contracts.{namedBy};
 ghost use Rattle.changes.specs.Sounded.{Sounded, brought};
-ghost use Rattle.run.specs.Recording.{endingText, pairPart, Ready, Played, Recordable, Written, Took, told, Shown};
+ghost use Rattle.run.specs.Recording.{kindNamed, endingText, pairPart, Ready, Played, Recordable, Written, Took, told, Shown};
 
 // The most bytes of a trace text.
 pub const TEXT_LIMIT: usize = 16384;
@@ -92,8 +96,8 @@ fn put_ending(rack: &[u8], out: &mut [u8]) -> usize
 fn put_change(rack: &mut [u8], code: u32, a: u32, b: u32, words: &[u32], out: &mut [u8]) -> usize
     requires { ⌜ Sounded low (now rack) ⌝ }
     requires { ⌜ (length (now words) ≤ 128) × (answerRoom ≤ length (now out)) ⌝ }
-    ensures leaves { λ _. ⌜ now (rack .exit) ≡ write (changeOf base (read low (now (rack .entry))) (brought code a b (now (words .entry))) .state) ⌝ }
-    ensures prints { λ r. ⌜ Put (answerLine (changeOf base (read low (now (rack .entry))) (brought code a b (now (words .entry))) .answer)) (now (out .entry)) (now (out .exit)) r ⌝ }
+    ensures leaves { λ _. ⌜ now (rack .exit) ≡ write (changeOf (rulesAt (now (rack .entry))) (read low (now (rack .entry))) (brought code a b (now (words .entry))) .state) ⌝ }
+    ensures prints { λ r. ⌜ Put (answerLine (changeOf (rulesAt (now (rack .entry))) (read low (now (rack .entry))) (brought code a b (now (words .entry))) .answer)) (now (out .entry)) (now (out .exit)) r ⌝ }
 {
     let x = changes::change(rack, code, a, b, words);
     record::put_answer(out, x.number, x.draws as u32, x.falls, x.pairs)
@@ -134,21 +138,44 @@ fn put_changes(
     at + m
 }
 
+// "The record repeats line 1", in the form that it was given.
+fn put_first(out: &mut [u8], n: u32, settings: Settings) -> usize
+    requires { ⌜ rackRoom ≤ length (now out) ⌝ }
+    ensures { λ r. ⌜ Put (rackLine n (namedBy settings)) (now (out .entry)) (now (out .exit)) r ⌝ }
+{
+    match settings {
+        Settings::Short => record::put_rack(out, n),
+        Settings::Long { growth, top } => record::put_rack_with(out, n, growth, top),
+    }
+}
+
+// Makes the rack that line 1 asks for: "the short line means 4 and 3".
+fn make(rack: &mut [u8], n: u32, settings: Settings) -> u32
+    ensures number { λ r. ⌜ r ≡ makeNumber (kindNamed (namedBy settings)) (now (rack .entry)) n ⌝ }
+    ensures leaves { λ _. ⌜ now (rack .exit) ≡ made (kindNamed (namedBy settings)) (now (rack .entry)) n ⌝ }
+{
+    match settings {
+        Settings::Short => engine::make_with(rack, n, SHORT_GROWTH, SHORT_TOP),
+        Settings::Long { growth, top } => engine::make_with(rack, n, growth, top),
+    }
+}
+
 // "The record repeats line 1, has one line for each change, then the pairs by rising lower board, then the end line": of n vertices, on the
 // rack just made.
 fn put_record(
     rack: &mut [u8],
     n: u32,
+    settings: Settings,
     heads: &[u32],
     words: &[u32],
     changes: usize,
     space: &mut [u8],
 ) -> usize
-    requires { ⌜ (sizeGood low n ≡ true) × (now rack ≡ write (empty lowKind n)) ⌝ }
-    requires { ⌜ Recordable (now heads) (now words) changes n (length (now space)) ⌝ }
-    ensures { λ r. ⌜ Written (now (heads .entry)) (now (words .entry)) changes n (now (rack .exit)) (now (space .entry)) (now (space .exit)) r ⌝ }
+    requires { ⌜ (askedNumber (kindNamed (namedBy settings)) n ≡ 0) × (now rack ≡ write (empty (kindNamed (namedBy settings)) n)) ⌝ }
+    requires { ⌜ Recordable (now heads) (now words) changes n (namedBy settings) (length (now space)) ⌝ }
+    ensures { λ r. ⌜ Written (now (heads .entry)) (now (words .entry)) changes n (namedBy settings) (now (rack .exit)) (now (space .entry)) (now (space .exit)) r ⌝ }
 {
-    let at = record::put_rack(space, n);
+    let at = put_first(space, n, settings);
     let m = put_changes(rack, heads, words, changes, &mut space[at..]);
     at + m
 }
@@ -175,9 +202,10 @@ fn turned_back(number: u32, line: usize) -> RunAnswer
     }
 }
 
-// "a trace 1 to 5", first fit first: the lengths, then the grammar, then the board number. A blank paper is recorded, and the rack left as it is.
+// "a trace 1 to 5", and 13, first fit first: the lengths, then the grammar, then the board number and the settings. A blank paper is recorded,
+// and the rack left as it is.
 pub fn run(rack: &mut [u8], text: &[u8], space: &mut [u8]) -> RunAnswer
-    ensures { λ r. ⌜ Ran base (now (rack .entry)) (now (text .entry)) (now (space .entry)) (told r) (now (rack .exit)) (now (space .exit)) ⌝ }
+    ensures { λ r. ⌜ Ran (now (rack .entry)) (now (text .entry)) (now (space .entry)) (told r) (now (rack .exit)) (now (space .exit)) ⌝ }
 {
     if !layout::sized(rack) {
         return turned_back(1, 0);
@@ -193,27 +221,34 @@ pub fn run(rack: &mut [u8], text: &[u8], space: &mut [u8]) -> RunAnswer
     match trace::read(text, &mut heads, &mut words) {
         Checked::Blank => recorded(record::put_blank(space)),
         Checked::Bad { line } => turned_back(4, line),
-        Checked::Fits { n, changes } => taken(rack, n, &heads, &words, changes, space),
+        Checked::Fits {
+            n,
+            settings,
+            changes,
+        } => taken(rack, n, settings, &heads, &words, changes, space),
     }
 }
 
-// A run of a text that fits the grammar, whose changes are kept: "5. The board number n asked for isn't 1 to 256.", or its record.
+// A run of a text that fits the grammar, whose changes are kept: "5. The board number n asked for isn't 1 to 256.", W-207: "A setting outside its
+// range is number 13, looked at just after 5, in a trace too", or its record.
 fn taken(
     rack: &mut [u8],
     n: u32,
+    settings: Settings,
     heads: &[u32],
     words: &[u32],
     changes: usize,
     space: &mut [u8],
 ) -> RunAnswer
     requires { ⌜ sizedOf low (now rack) ≡ true ⌝ }
-    requires { ⌜ Recordable (now heads) (now words) changes n (length (now space)) ⌝ }
-    ensures { λ r. ⌜ Took (sizeGood low n) (now (heads .entry)) (now (words .entry)) changes n (now (rack .entry)) (now (space .entry)) (told r) (now (rack .exit)) (now (space .exit)) ⌝ }
+    requires { ⌜ Recordable (now heads) (now words) changes n (namedBy settings) (length (now space)) ⌝ }
+    ensures { λ r. ⌜ Took (askedNumber (kindNamed (namedBy settings)) n) (now (heads .entry)) (now (words .entry)) changes n (namedBy settings) (now (rack .entry)) (now (space .entry)) (told r) (now (rack .exit)) (now (space .exit)) ⌝ }
 {
-    if engine::make(rack, n) != 0 {
-        return turned_back(5, 0);
+    let k = make(rack, n, settings);
+    if k != 0 {
+        return turned_back(k, 0);
     }
-    recorded(put_record(rack, n, heads, words, changes, space))
+    recorded(put_record(rack, n, settings, heads, words, changes, space))
 }
 
 // "prints the record, or `(bad K L)`": the text to print stands at the start of the space, and its length is the answer. It is no call for

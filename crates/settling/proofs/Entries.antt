@@ -8,8 +8,8 @@ use native.Mathlib.Omega.{arith}
 use lib.Dec.{T}
 use Rattle.model.specs.Counting.{count}
 use Rattle.model.specs.Shape.{Shape}
-use Rattle.model.specs.State.{base, State, near, below}
-use Rattle.model.specs.Bytes.{noMate, mateAt, read}
+use Rattle.model.specs.State.{State, near, below}
+use Rattle.model.specs.Bytes.{topAt, noMate, mateAt, read}
 use Rattle.model.specs.Words.{place}
 use Rattle.model.specs.Moves.{chosen}
 use Rattle.model.proofs.Counting.{count-bound}
@@ -24,7 +24,7 @@ use Rattle.settling.specs.Settling.{running}
 use Rattle.settling.specs.declared.tally.Tally.{Tally}
 
 -- a level is one of those that have counts
-pub level-small : {S : Shape} {bs : List ℕ} → Held S bs → (i : ℕ) → i ≤ base .top → i < S .levels
+pub level-small : {S : Shape} {bs : List ℕ} → Held S bs → (i : ℕ) → i ≤ topAt bs → i < S .levels
 level-small h i k = omega (arith, held-room h)
 
 module _ {S : Shape} (bs : List ℕ) (h : Held S bs) (v : ℕ) (l : v < read S bs .n) where

@@ -7,14 +7,14 @@ use mathlib.Core.List.{List}
 use Prim.Native.Nat.{ℕ, zero, suc, _≤_, _<_}
 use native.Mathlib.Omega.{arith}
 use lib.Dec.{T}
-use Rattle.model.specs.Shape.{Shape}
-use Rattle.model.specs.State.{base, State, edge, near, below}
+use Rattle.model.specs.State.{rules, Kind, State, edge, near, below}
 use Rattle.model.specs.Moves.{Run, lifted, part, rise, marry, chosen, drawn, draw, promote, due}
 use Rattle.model.proofs.Tests.{eq?, holds?, true-T}
 use Rattle.model.proofs.Lists.{upd-same, upd-other}
 use Rattle.theory.proofs.Loops.{scanUpto}
 use Rattle.theory.proofs.Ownership.{out, back, rest, turned}
 use Rattle.moves.specs.Proper.{Proper, Ordered, RowBelow}
+use Rattle.moves.proofs.Held.{proper-pos}
 use Rattle.moves.proofs.Edges.{edge-of, near-of, near-edge, near-low}
 use Rattle.settling.specs.Settling.{visited}
 use Rattle.settling.proofs.Steps.{SameEdges, part-kept, rise-edge, lift-kept, lift-below, near-inside, chosen-near, due-low}
@@ -36,7 +36,7 @@ module _ (i v : ℕ) (p : ℕ → Bool) where
   live-marry x y t h = record { near = h .near; from = h .from }
 
   -- a vertex that rises is no longer near; v itself takes only edges to vertices that were in its row
-  live-rise : {S : Shape} (x : ℕ) (t : State) → Proper S t → Ordered t → Live i v p t → Live i v p (rise i x t)
+  live-rise : {K : Kind} (x : ℕ) (t : State) → Proper K t → Ordered t → Live i v p t → Live i v p (rise i x t)
   unfolding rise
   live-rise x t q o h = record {
     near = λ y b.
@@ -56,10 +56,10 @@ module _ (i v : ℕ) (p : ℕ → Bool) where
     ];
   }
 
-  live-lift : {S : Shape} (x : ℕ) (t : State) → Proper S t → Ordered t → x < t .n → Live i v p t → Live i v p (rise i x (part x t))
-  live-lift {S} x t q o l h = let a : SameEdges S t (part x t) = part-kept t q o x l in live-rise x (part x t) (a .proper) (a .ordered) (live-part x t h)
+  live-lift : {K : Kind} (x : ℕ) (t : State) → Proper K t → Ordered t → x < t .n → Live i v p t → Live i v p (rise i x (part x t))
+  live-lift {K} x t q o l h = let a : SameEdges K t (part x t) = part-kept t q o x l in live-rise x (part x t) (a .proper) (a .ordered) (live-part x t h)
 
-  live-draw : {S : Shape} (words : List ℕ) (u : ℕ) (r : Run) → Proper S (r .state) → Ordered (r .state) → 1 ≤ below (r .state) u i → Live i v p (r .state)
+  live-draw : {K : Kind} (words : List ℕ) (u : ℕ) (r : Run) → Proper K (r .state) → Ordered (r .state) → 1 ≤ below (r .state) u i → Live i v p (r .state)
       → Live i v p (draw words i u r .state)
   unfolding draw drawn
   live-draw words u r q o b h =
@@ -67,72 +67,72 @@ module _ (i v : ℕ) (p : ℕ → Bool) where
       live-marry u y (rise i y (part y (r .state)))
       (live-lift y (r .state) q o (near-inside (r .state) q u i y (chosen-near words i u r b)) h)
 
-  live-promote : {S : Shape} (words : List ℕ) (u : ℕ) (r : Run) → Proper S (r .state) → Ordered (r .state) → u < r .state .n → i ≤ base .top
+  live-promote : {K : Kind} (words : List ℕ) (u : ℕ) (r : Run) → Proper K (r .state) → Ordered (r .state) → u < r .state .n → i ≤ K .top
       → r .state .rank u ≤ i → 1 ≤ below (r .state) u i → Live i v p (r .state) → Live i v p (promote words i u r .state)
   unfolding promote
-  live-promote {S} words u r q o l k m b h =
+  live-promote {K} words u r q o l k m b h =
       let s : State = r .state in
-      let a : SameEdges S s (rise i u (part u s)) = lift-kept s q o i u l m k in
+      let a : SameEdges K s (rise i u (part u s)) = lift-kept s q o i u l m k in
       live-draw words u (lifted i u r) (a .proper) (a .ordered) (omega (arith, lift-below s q o i u l)) (live-lift u s q o l h)
 
-  live-visited : {S : Shape} (words : List ℕ) (w : ℕ) (r : Run) → Proper S (r .state) → Ordered (r .state) → w < r .state .n → i ≤ base .top
-      → Live i v p (r .state) → Live i v p (visited base words i w r .state)
-  live-visited words w r q o l k h = elim (holds? (due base i w (r .state))) [
-    | inl t ↦ rw (visited-yes base words i w r t)
-        (live-promote words w r q o l k (due-low i w (r .state) t .0) (due-low i w (r .state) t .1) h)
-    | inr t ↦ rw (visited-no base words i w r t) h
+  live-visited : {K : Kind} (words : List ℕ) (w : ℕ) (r : Run) → Proper K (r .state) → Ordered (r .state) → w < r .state .n → i ≤ K .top
+      → Live i v p (r .state) → Live i v p (visited (rules K) words i w r .state)
+  live-visited {K} words w r q o l k h = elim (holds? (due (rules K) i w (r .state))) [
+    | inl t ↦ rw (visited-yes (rules K) words i w r t)
+        (live-promote words w r q o l k (due-low (rules K) (proper-pos q) i w (r .state) t .0) (due-low (rules K) (proper-pos q) i w (r .state) t .1) h)
+    | inr t ↦ rw (visited-no (rules K) words i w r t) h
   ]
 
 -- The scan from a run whose row of v holds exactly v's neighbours below level i.
-module _ {S : Shape} (words : List ℕ) (i v : ℕ) (r : Run) (q : Proper S (r .state)) (o : Ordered (r .state)) (k : i ≤ base .top) (f : RowBelow i v (r .state)) where
-  pub scanned-kept : (m : ℕ) → SameEdges S (r .state) (scanUpto base words i (r .state .owns v) m r .state)
+module _ {K : Kind} (words : List ℕ) (i v : ℕ) (r : Run) (q : Proper K (r .state)) (o : Ordered (r .state)) (k : i ≤ K .top) (f : RowBelow i v (r .state)) where
+  pub scanned-kept : (m : ℕ) → SameEdges K (r .state) (scanUpto (rules K) words i (r .state .owns v) m r .state)
   scanned-kept m = upto-kept words i (r .state .owns v) r q o k (λ w t. q .inside v w t .1) m
 
-  pub scanned-live : (m : ℕ) → Live i v (r .state .owns v) (scanUpto base words i (r .state .owns v) m r .state)
+  pub scanned-live : (m : ℕ) → Live i v (r .state .owns v) (scanUpto (rules K) words i (r .state .owns v) m r .state)
   scanned-live zero =
-      rw (upto-none base words i (r .state .owns v) r) (record { near = λ x t. subst T (sym (f x)) t; from = λ x t. t })
+      rw (upto-none (rules K) words i (r .state .owns v) r) (record { near = λ x t. subst T (sym (f x)) t; from = λ x t. t })
   scanned-live (suc m) =
       let p : ℕ → Bool = r .state .owns v in
-      let a : SameEdges S (r .state) (scanUpto base words i p m r .state) = scanned-kept m in
+      let a : SameEdges K (r .state) (scanUpto (rules K) words i p m r .state) = scanned-kept m in
       elim (holds? (p m)) [
-        | inl t ↦ rw (upto-yes base words i p m r t)
-            (live-visited i v p words m (scanUpto base words i p m r) (a .proper) (a .ordered) (omega (arith, a .size, q .inside v m t .1)) k (scanned-live m))
-        | inr t ↦ rw (upto-no base words i p m r t) (scanned-live m)
+        | inl t ↦ rw (upto-yes (rules K) words i p m r t)
+            (live-visited i v p words m (scanUpto (rules K) words i p m r) (a .proper) (a .ordered) (omega (arith, a .size, q .inside v m t .1)) k (scanned-live m))
+        | inr t ↦ rw (upto-no (rules K) words i p m r t) (scanned-live m)
       ]
 
   -- the row only loses vertices
-  pub scanned-less : (m x : ℕ) → T (scanUpto base words i (r .state .owns v) (suc m) r .state .owns v x)
-      → T (scanUpto base words i (r .state .owns v) m r .state .owns v x)
+  pub scanned-less : (m x : ℕ) → T (scanUpto (rules K) words i (r .state .owns v) (suc m) r .state .owns v x)
+      → T (scanUpto (rules K) words i (r .state .owns v) m r .state .owns v x)
   scanned-less m x t =
       let p : ℕ → Bool = r .state .owns v in
-      let u : Run = scanUpto base words i p m r in
-      let a : SameEdges S (r .state) (u .state) = scanned-kept m in
+      let u : Run = scanUpto (rules K) words i p m r in
+      let a : SameEdges K (r .state) (u .state) = scanned-kept m in
       elim (holds? (p m)) [
         | inl h ↦ live-visited i v (u .state .owns v) words m u (a .proper) (a .ordered) (omega (arith, a .size, q .inside v m h .1)) k
             (record { near = scanned-live m .near; from = λ y b. b }) .from x
-            (subst (λ (z : Run). T (z .state .owns v x)) (upto-yes base words i p m r h) t)
-        | inr h ↦ subst (λ (z : Run). T (z .state .owns v x)) (upto-no base words i p m r h) t
+            (subst (λ (z : Run). T (z .state .owns v x)) (upto-yes (rules K) words i p m r h) t)
+        | inr h ↦ subst (λ (z : Run). T (z .state .owns v x)) (upto-no (rules K) words i p m r h) t
       ]
 
   -- a vertex of the first row that is in the row no longer is not due
-  passed : (m x : ℕ) → T (r .state .owns v x) → (T (scanUpto base words i (r .state .owns v) m r .state .owns v x) → ⊥)
-      → T (due base i x (scanUpto base words i (r .state .owns v) m r .state)) → ⊥
+  passed : (m x : ℕ) → T (r .state .owns v x) → (T (scanUpto (rules K) words i (r .state .owns v) m r .state .owns v x) → ⊥)
+      → T (due (rules K) i x (scanUpto (rules K) words i (r .state .owns v) m r .state)) → ⊥
   passed m x t g d =
-      let s : State = scanUpto base words i (r .state .owns v) m r .state in
-      g (scanned-live m .near x (near-of s v i x (subst T (sym (scanned-kept m .edges v x)) (edge-of (r .state) v x t)) (due-low i x s d .0)))
+      let s : State = scanUpto (rules K) words i (r .state .owns v) m r .state in
+      g (scanned-live m .near x (near-of s v i x (subst T (sym (scanned-kept m .edges v x)) (edge-of (r .state) v x t)) (due-low (rules K) (proper-pos q) i x s d .0)))
 
   -- so where the row has none from m on and below j, the scan has nothing to do there
-  pub scanned-over : (m j : ℕ) → m ≤ j → ((x : ℕ) → m ≤ x → x < j → T (scanUpto base words i (r .state .owns v) m r .state .owns v x) → ⊥)
-      → scanUpto base words i (r .state .owns v) j r ≡ scanUpto base words i (r .state .owns v) m r
-  scanned-over m zero l g = ap (λ (x : ℕ). scanUpto base words i (r .state .owns v) x r) (omega arith)
+  pub scanned-over : (m j : ℕ) → m ≤ j → ((x : ℕ) → m ≤ x → x < j → T (scanUpto (rules K) words i (r .state .owns v) m r .state .owns v x) → ⊥)
+      → scanUpto (rules K) words i (r .state .owns v) j r ≡ scanUpto (rules K) words i (r .state .owns v) m r
+  scanned-over m zero l g = ap (λ (x : ℕ). scanUpto (rules K) words i (r .state .owns v) x r) (omega arith)
   scanned-over m (suc j) l g = elim (eq? m (suc j)) [
-    | inl e ↦ ap (λ (x : ℕ). scanUpto base words i (r .state .owns v) x r) (sym e)
+    | inl e ↦ ap (λ (x : ℕ). scanUpto (rules K) words i (r .state .owns v) x r) (sym e)
     | inr e ↦
         let p : ℕ → Bool = r .state .owns v in
-        let c : scanUpto base words i p j r ≡ scanUpto base words i p m r = scanned-over m j (omega arith) (λ x a b. g x a (omega arith)) in
+        let c : scanUpto (rules K) words i p j r ≡ scanUpto (rules K) words i p m r = scanned-over m j (omega arith) (λ x a b. g x a (omega arith)) in
         elim (holds? (p j)) [
-          | inl t ↦ upto-yes base words i p j r t ∙ ap (visited base words i j) c
-              ∙ visited-no base words i j (scanUpto base words i p m r) (passed m j t (g j (omega arith) (omega arith)))
-          | inr t ↦ upto-no base words i p j r t ∙ c
+          | inl t ↦ upto-yes (rules K) words i p j r t ∙ ap (visited (rules K) words i j) c
+              ∙ visited-no (rules K) words i j (scanUpto (rules K) words i p m r) (passed m j t (g j (omega arith) (omega arith)))
+          | inr t ↦ upto-no (rules K) words i p j r t ∙ c
         ]
   ]

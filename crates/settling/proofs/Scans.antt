@@ -8,8 +8,8 @@ use native.Mathlib.Omega.{arith}
 use lib.Dec.{T}
 use lib.ListN.{length}
 use Rattle.model.specs.Shape.{Shape}
-use Rattle.model.specs.State.{base, State}
-use Rattle.model.specs.Bytes.{ownsAt, read}
+use Rattle.model.specs.State.{Rules, State}
+use Rattle.model.specs.Bytes.{rulesAt, kindAt, topAt, ownsAt, read}
 use Rattle.model.specs.Moves.{Run, scanFrom}
 use Rattle.model.proofs.Tests.{le?}
 use Rattle.theory.proofs.Loops.{scanUpto, scanFrom-loop}
@@ -19,7 +19,7 @@ use Rattle.layout.specs.Walks.{placeOf, Here, Stands, Further}
 use Rattle.layout.proofs.Walks.{row-whole, until, until-low, until-high, further}
 use Rattle.layout.proofs.Reached.{place-small}
 use Rattle.moves.specs.Proper.{Ordered, Held, RowBelow}
-use Rattle.moves.proofs.Held.{reads-as, held-of, held-good, held-few, held-sized, held-owns, held-small}
+use Rattle.moves.proofs.Held.{top-as, rules-as, reads-as, held-of, held-good, held-few, held-sized, held-owns, held-small}
 use Rattle.settling.specs.Settling.{running, HoldsWaiting, Left, visited, drawLimit, takeLimit}
 use Rattle.settling.specs.declared.tally.Tally.{Tally}
 use Rattle.settling.proofs.Steps.{SameEdges}
@@ -32,7 +32,7 @@ pub record ScanFrom (S : Shape) (words : List ℕ) (i v : ℕ) (bs₀ places₀ 
   pub held : Held S bs₀
   pub ordered : Ordered (read S bs₀)
   pub inside : v < read S bs₀ .n
-  pub level : i ≤ base .top
+  pub level : i ≤ topAt bs₀
   pub row : RowBelow i v (read S bs₀)
 
 -- where the loop stands: the vertices below `from` are done, and c goes on from there. It sees vertices of the first row alone, and all that
@@ -40,7 +40,7 @@ pub record ScanFrom (S : Shape) (words : List ℕ) (i v : ℕ) (bs₀ places₀ 
 pub record Scanning (S : Shape) (words : List ℕ) (i v : ℕ) (bs₀ places₀ : List ℕ) (t₀ : Tally) (bs places : List ℕ) (t : Tally) (c : Cursor) : Type 0 where
   pub from : ℕ
   pub within : from ≤ read S bs₀ .n
-  pub left : Left (scanUpto base words i (read S bs₀ .owns v) from (running S bs₀ places₀ t₀)) bs places t
+  pub left : Left (scanUpto (rulesAt bs₀) words i (read S bs₀ .owns v) from (running S bs₀ places₀ t₀)) bs places t
   pub long : length places ≡ length places₀
   pub seen : ℕ → Bool
   pub stands : Stands (S .most) seen from c
@@ -50,9 +50,9 @@ pub record Scanning (S : Shape) (words : List ℕ) (i v : ℕ) (bs₀ places₀ 
 module _ {S : Shape} {words : List ℕ} {i v : ℕ} {bs₀ places₀ : List ℕ} {t₀ : Tally} (a : ScanFrom S words i v bs₀ places₀ t₀) where
   -- the run after the turns of the vertices below w
   done : ℕ → Run
-  done w = scanUpto base words i (read S bs₀ .owns v) w (running S bs₀ places₀ t₀)
+  done w = scanUpto (rulesAt bs₀) words i (read S bs₀ .owns v) w (running S bs₀ places₀ t₀)
 
-  done-kept : (w : ℕ) → SameEdges S (read S bs₀) (done w .state)
+  done-kept : (w : ℕ) → SameEdges (kindAt S bs₀) (read S bs₀) (done w .state)
   unfolding done
   done-kept w = scanned-kept words i v (running S bs₀ places₀ t₀) (a .held .proper) (a .ordered) (a .level) (a .row) w
 
@@ -62,6 +62,13 @@ module _ {S : Shape} {words : List ℕ} {i v : ℕ} {bs₀ places₀ : List ℕ}
   done-held : (w : ℕ) {bs places : List ℕ} {t : Tally} → Left (done w) bs places t → Held S bs
   done-held w {bs} l = held-of bs (done w .state) (l .rack) (done-kept w .proper)
 
+  -- the settings stay
+  done-top : (w : ℕ) {bs places : List ℕ} {t : Tally} → Left (done w) bs places t → topAt bs ≡ topAt bs₀
+  done-top w {bs} l = top-as bs (done w .state) (l .rack) (done-kept w .proper)
+
+  done-rules : (w : ℕ) {bs places : List ℕ} {t : Tally} → Left (done w) bs places t → rulesAt bs ≡ rulesAt bs₀
+  done-rules w {bs} l = rules-as bs (done w .state) (l .rack) (done-kept w .proper)
+
   v-small : v < S .most
   v-small = held-small (a .held) v (a .inside)
 
@@ -69,7 +76,7 @@ module _ {S : Shape} {words : List ℕ} {i v : ℕ} {bs₀ places₀ : List ℕ}
   scan-starts h s = record {
     from = 0;
     within = omega arith;
-    left = subst (λ (r : Run). Left r bs₀ places₀ t₀) (sym (upto-none base words i (read S bs₀ .owns v) (running S bs₀ places₀ t₀)))
+    left = subst (λ (r : Run). Left r bs₀ places₀ t₀) (sym (upto-none (rulesAt bs₀) words i (read S bs₀ .owns v) (running S bs₀ places₀ t₀)))
         (record { rack = a .held .written; queues = refl; draws = refl; falls = refl; holds = h });
     long = refl;
     seen = ownsAt S bs₀ v;
@@ -114,29 +121,30 @@ module _ {S : Shape} {words : List ℕ} {i v : ℕ} {bs₀ places₀ : List ℕ}
 
       -- what the visit asks
       pub scan-visits : {w : ℕ} → w ≡ placeOf (c .word) (c .rest) → t₀ .draws ≤ takeLimit S → length words ≤ takeLimit S
-          → (Held S bs × Ordered (read S bs)) × (((w < read S bs .n) × (i ≤ base .top)) × (HoldsWaiting places t (read S bs) × (t .draws ≤ drawLimit)))
+          → (Held S bs × Ordered (read S bs)) × (((w < read S bs .n) × (i ≤ topAt bs)) × (HoldsWaiting places t (read S bs) × (t .draws ≤ drawLimit)))
       unfolding done turn
       scan-visits {w} e d lent =
-          let q : SameEdges S (read S bs₀) (done turn .state) = done-kept turn in
-          let m = upto-room words i base (read S bs₀ .owns v) turn (running S bs₀ places₀ t₀) lent d in
-          subst (λ (s : State). (Held S bs × Ordered s) × (((w < s .n) × (i ≤ base .top)) × (HoldsWaiting places t s × (t .draws ≤ drawLimit))))
+          let q : SameEdges (kindAt S bs₀) (read S bs₀) (done turn .state) = done-kept turn in
+          let m = upto-room words i (rulesAt bs₀) (read S bs₀ .owns v) turn (running S bs₀ places₀ t₀) lent d in
+          subst (λ (s : State). (Held S bs × Ordered s) × (((w < s .n) × (i ≤ topAt bs)) × (HoldsWaiting places t s × (t .draws ≤ drawLimit))))
           (sym (done-reads turn turn-left)) (
             (done-held turn turn-left, q .ordered),
             (
-              (omega (arith, e, q .size, turn-inside), a .level),
+              (omega (arith, e, q .size, turn-inside), omega (arith, a .level, done-top turn turn-left)),
               (turn-left .holds, omega (arith, turn-left .draws, turn-inside, held-few (a .held), held-good (a .held) .named)),
             ),
           )
 
       -- after the visit
       module _ {w : ℕ} (e : w ≡ placeOf (c .word) (c .rest)) {bs′ places′ : List ℕ} {t′ : Tally}
-          (l : Left (visited base words i w (running S bs places t)) bs′ places′ t′) where
+          (l : Left (visited (rulesAt bs) words i w (running S bs places t)) bs′ places′ t′) where
         visited-left : Left (done (suc turn)) bs′ places′ t′
         unfolding done turn
         visited-left =
-            subst (λ (r : Run). Left r bs′ places′ t′) (sym (upto-yes base words i (read S bs₀ .owns v) turn (running S bs₀ places₀ t₀) turn-owned))
-            (left-same (visited-same base words i turn (left-run turn-left (done-kept turn .proper)))
-            (subst (λ (x : ℕ). Left (visited base words i x (running S bs places t)) bs′ places′ t′) e l))
+            subst (λ (r : Run). Left r bs′ places′ t′) (sym (upto-yes (rulesAt bs₀) words i (read S bs₀ .owns v) turn (running S bs₀ places₀ t₀) turn-owned))
+            (left-same (visited-same (rulesAt bs₀) words i turn (left-run turn-left (done-kept turn .proper)))
+            (subst (λ (x : ℕ). Left (visited (rulesAt bs₀) words i x (running S bs places t)) bs′ places′ t′) e
+            (subst (λ (R : Rules). Left (visited R words i w (running S bs places t)) bs′ places′ t′) (done-rules turn turn-left) l)))
 
         -- who is in the row after the visit was in it before, and so in the first row
         still : (x : ℕ) → T (read S bs′ .owns v x) → T (read S bs .owns v x) × T (read S bs₀ .owns v x)
@@ -175,8 +183,8 @@ module _ {S : Shape} {words : List ℕ} {i v : ℕ} {bs₀ places₀ : List ℕ}
               ];
             }
 
-    pub scan-ends : c .rest ≡ 0 → Left (scanFrom base words i v (running S bs₀ places₀ t₀)) bs places t
+    pub scan-ends : c .rest ≡ 0 → Left (scanFrom (rulesAt bs₀) words i v (running S bs₀ places₀ t₀)) bs places t
     unfolding done
     scan-ends z =
-        subst (λ (r : Run). Left r bs places t) (sym (scanFrom-loop base words i v (running S bs₀ places₀ t₀)))
+        subst (λ (r : Run). Left r bs places t) (sym (scanFrom-loop (rulesAt bs₀) words i v (running S bs₀ places₀ t₀)))
         (over (read S bs₀ .n) (g .within) (λ x b d. g .stands .ended z x b (omega (arith, held-few (a .held)))))

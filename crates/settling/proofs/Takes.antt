@@ -4,20 +4,19 @@ use mathlib.Core.Path.{_≡_, refl, sym, ap, _∙_, subst}
 use mathlib.Core.Logic.{inl, inr}
 use mathlib.Core.Bool.{Bool}
 use mathlib.Core.List.{List}
-use Prim.Native.Nat.{ℕ, zero, suc, _≤_, _<_}
+use Prim.Native.Nat.{ℕ, zero, suc, _≤_, _<_, _^_}
 use native.Mathlib.Omega.{arith}
 use lib.Dec.{T}
 use lib.ListN.{length, take as first}
 use Rattle.model.specs.Shape.{Shape}
-use Rattle.model.specs.State.{base, State, below, phi}
-use Rattle.model.specs.Bytes.{read, write}
+use Rattle.model.specs.State.{Kind, Rules, State, below, phi}
+use Rattle.model.specs.Bytes.{rulesAt, kindAt, growthAt, topAt, read, write}
 use Rattle.model.specs.Moves.{Run, join, without, handed, handOver, fall, draw, due, scanFrom, take}
 use Rattle.model.proofs.Tests.{holds?}
 use Rattle.theory.specs.Waiting.{queuesIn, joinQueue}
 use Rattle.theory.proofs.Loops.{scanUpto, scanFrom-loop}
-use Rattle.theory.proofs.Matching.{base-pos}
 use Rattle.moves.specs.Proper.{Ordered, Held, RowBelow, ranked}
-use Rattle.moves.proofs.Held.{reads-as, held-of}
+use Rattle.moves.proofs.Held.{proper-pos, kind-as, top-as, rules-as, reads-as, held-of}
 use Rattle.moves.proofs.Keeps.{hand-row, ranked-row}
 use Rattle.settling.specs.Settling.{queueIn, running, HoldsWaitingBut, HoldsWaiting, Falling, Left, visited, drawLimit, takeLimit}
 use Rattle.settling.specs.declared.tally.Tally.{Tally}
@@ -36,7 +35,7 @@ pub record Handed (S : Shape) (bs places : List ℕ) (t : Tally) (i v k : ℕ) (
   pub inside : v < read S bs .n
   pub free : read S bs .mate v ≡ v
   pub rank : read S bs .rank v ≡ suc i
-  pub level : i ≤ base .top
+  pub level : i ≤ topAt bs
   pub holds : HoldsWaiting places t (read S bs)
   pub left : Requeued (without v (queueIn places t)) t places′ t′
   pub long : length places′ ≡ length places
@@ -44,11 +43,21 @@ pub record Handed (S : Shape) (bs places : List ℕ) (t : Tally) (i v k : ℕ) (
   pub size : k ≡ below (handOver i v (read S bs)) v i
 
 module _ {S : Shape} {bs places : List ℕ} {t : Tally} {i v k : ℕ} {b places′ : List ℕ} {t′ : Tally} (a : Handed S bs places t i v k b places′ t′) where
-  handed-kept : SameEdges S (read S bs) (handOver i v (read S bs))
+  handed-kept : SameEdges (kindAt S bs) (read S bs) (handOver i v (read S bs))
   handed-kept = hand-kept (read S bs) (a .held .proper) (a .ordered) i v (a .inside) (a .rank)
 
   handed-read : read S b ≡ handOver i v (read S bs)
   handed-read = reads-as b (handOver i v (read S bs)) (a .bytes) (handed-kept .proper)
+
+  -- the settings stay
+  pub handed-growth : growthAt b ≡ growthAt bs
+  handed-growth = ap (λ (K : Kind). K .growth) (kind-as b (handOver i v (read S bs)) (a .bytes) (handed-kept .proper))
+
+  handed-top : topAt b ≡ topAt bs
+  handed-top = top-as b (handOver i v (read S bs)) (a .bytes) (handed-kept .proper)
+
+  handed-rules : rulesAt b ≡ rulesAt bs
+  handed-rules = rules-as b (handOver i v (read S bs)) (a .bytes) (handed-kept .proper)
 
   pub handed-held : Held S b × Ordered (read S b)
   handed-held = (held-of b (handOver i v (read S bs)) (a .bytes) (handed-kept .proper), subst Ordered (sym handed-read) (handed-kept .ordered))
@@ -72,19 +81,19 @@ module _ {S : Shape} {bs places : List ℕ} {t : Tally} {i v k : ℕ} {b places�
     inside = omega (arith, a .inside, ap (λ (s : State). s .n) handed-read);
     free = ap (λ (s : State). s .mate v) handed-read ∙ a .free;
     rank = ap (λ (s : State). s .rank v) handed-read ∙ a .rank;
-    level = a .level;
+    level = omega (arith, a .level, handed-top);
     row = subst (RowBelow i v) (sym handed-read) handed-row;
     size = a .size ∙ ap (λ (s : State). below s v i) (sym handed-read);
   }
 
-  pub handed-draws : base .thr i ≤ k → t .draws ≤ drawLimit → Draws S b i v k places′ t′ (read S b)
+  pub handed-draws : growthAt bs ^ i ≤ k → t .draws ≤ drawLimit → Draws S b i v k places′ t′ (read S b)
   unfolding handOver
   handed-draws n x =
       draws-of (handOver i v (read S bs)) (a .bytes) (handed-kept .proper) i v k t′ (
         (handed-held .0, handed-kept .ordered),
         (
-          (a .inside, a .free, a .rank, a .level),
-          ((handed-row, omega (arith, base-pos i, a .size), a .size), (handed-holds, omega (arith, a .left .draws))),
+          (a .inside, a .free, a .rank, omega (arith, a .level, handed-top)),
+          ((handed-row, omega (arith, proper-pos (a .held .proper) i, a .size), a .size), (handed-holds, omega (arith, a .left .draws))),
         ),
       )
 
@@ -98,16 +107,17 @@ module _ {S : Shape} {bs places : List ℕ} {t : Tally} {i v k : ℕ} {b places�
     falls = a .left .falls;
   }
 
-  pub taken-draws : (words : List ℕ) {places″ d : List ℕ} {r : Tally} → base .thr i ≤ k
-      → Left (draw words i v (running S b places′ t′)) d places″ r → Left (take base words i v (running S bs places t)) d places″ r
+  pub taken-draws : (words : List ℕ) {places″ d : List ℕ} {r : Tally} → growthAt bs ^ i ≤ k
+      → Left (draw words i v (running S b places′ t′)) d places″ r → Left (take (rulesAt bs) words i v (running S bs places t)) d places″ r
   taken-draws words n c =
-      rw (take-draws words i v (running S bs places t) (omega (arith, a .size))) (left-same (draw-same words i v handed-run) c)
+      rw (take-draws (rulesAt bs) words i v (running S bs places t) (omega (arith, a .size))) (left-same (draw-same words i v handed-run) c)
 
-  pub taken-falls : (words : List ℕ) {places″ d : List ℕ} {r : Tally} → k < base .thr i
-      → Left (scanFrom base words i v (fall i v (running S b places′ t′))) d places″ r → Left (take base words i v (running S bs places t)) d places″ r
-  taken-falls words n c =
-      rw (take-falls words i v (running S bs places t) (omega (arith, a .size)))
-      (left-same (scanFrom-same base words i v (fall-same i v handed-run)) c)
+  pub taken-falls : (words : List ℕ) {places″ d : List ℕ} {r : Tally} → k < growthAt bs ^ i
+      → Left (scanFrom (rulesAt b) words i v (fall i v (running S b places′ t′))) d places″ r → Left (take (rulesAt bs) words i v (running S bs places t)) d places″ r
+  taken-falls words {places″} {d} {r} n c =
+      rw (take-falls (rulesAt bs) words i v (running S bs places t) (omega (arith, a .size)))
+      (left-same (scanFrom-same (rulesAt bs) words i v (fall-same i v handed-run))
+      (subst (λ (R : Rules). Left (scanFrom R words i v (fall i v (running S b places′ t′))) d places″ r) handed-rules c))
 
 -- v has fallen from level i and has joined the end of its new level: bs, places and t before, b, places′ and t′ after
 pub record Fallen (S : Shape) (bs places : List ℕ) (t : Tally) (i v k : ℕ) (b places′ : List ℕ) (t′ : Tally) : Type 0 where
@@ -120,26 +130,33 @@ pub record Fallen (S : Shape) (bs places : List ℕ) (t : Tally) (i v k : ℕ) (
   pub bytes : b ≡ write (ranked v i (read S bs))
 
 -- where nobody of the row is due, nothing happens in the scan
-upto-quiet : (words : List ℕ) (i : ℕ) (p : ℕ → Bool) (m : ℕ) (r : Run) → ((w : ℕ) → T (p w) → T (due base i w (r .state)) → ⊥)
-    → scanUpto base words i p m r ≡ r
-upto-quiet words i p zero r h = upto-none base words i p r
-upto-quiet words i p (suc m) r h =
-    let e : scanUpto base words i p m r ≡ r = upto-quiet words i p m r h in
+upto-quiet : (R : Rules) (words : List ℕ) (i : ℕ) (p : ℕ → Bool) (m : ℕ) (r : Run) → ((w : ℕ) → T (p w) → T (due R i w (r .state)) → ⊥)
+    → scanUpto R words i p m r ≡ r
+upto-quiet R words i p zero r h = upto-none R words i p r
+upto-quiet R words i p (suc m) r h =
+    let e : scanUpto R words i p m r ≡ r = upto-quiet R words i p m r h in
     elim (holds? (p m)) [
-      | inl t ↦ upto-yes base words i p m r t ∙ ap (visited base words i m) e ∙ visited-no base words i m r (h m t)
-      | inr t ↦ upto-no base words i p m r t ∙ e
+      | inl t ↦ upto-yes R words i p m r t ∙ ap (visited R words i m) e ∙ visited-no R words i m r (h m t)
+      | inr t ↦ upto-no R words i p m r t ∙ e
     ]
 
 -- what the scan after a fall asks
 abbrev pub Scans : Shape → List ℕ → ℕ → ℕ → List ℕ → Tally → State → Type 0
-Scans S b i v places t s = (Held S b × Ordered s) × (((v < s .n) × (i ≤ base .top) × RowBelow i v s) × (HoldsWaiting places t s × (t .draws ≤ takeLimit S)))
+Scans S b i v places t s = (Held S b × Ordered s) × (((v < s .n) × (i ≤ topAt b) × RowBelow i v s) × (HoldsWaiting places t s × (t .draws ≤ takeLimit S)))
 
 module _ {S : Shape} {bs places : List ℕ} {t : Tally} {i v k : ℕ} {b places′ : List ℕ} {t′ : Tally} (a : Fallen S bs places t i v k b places′ t′) where
-  fallen-kept : SameEdges S (read S bs) (ranked v i (read S bs))
+  fallen-kept : SameEdges (kindAt S bs) (read S bs) (ranked v i (read S bs))
   fallen-kept = fall-kept (read S bs) (a .held .proper) (a .ordered) i v (a .falls .inside) (a .falls .rank) (a .falls .row)
 
   fallen-read : read S b ≡ ranked v i (read S bs)
   fallen-read = reads-as b (ranked v i (read S bs)) (a .bytes) (fallen-kept .proper)
+
+  -- the settings stay
+  fallen-top : topAt b ≡ topAt bs
+  fallen-top = top-as b (ranked v i (read S bs)) (a .bytes) (fallen-kept .proper)
+
+  fallen-rules : rulesAt b ≡ rulesAt bs
+  fallen-rules = rules-as b (ranked v i (read S bs)) (a .bytes) (fallen-kept .proper)
 
   pub fallen-scans : t .draws ≤ takeLimit S → Scans S b i v places′ t′ (read S b)
   fallen-scans x =
@@ -148,7 +165,7 @@ module _ {S : Shape} {bs places : List ℕ} {t : Tally} {i v k : ℕ} {b places�
         (
           (
             omega (arith, fallen-kept .size, a .falls .inside),
-            a .falls .level,
+            omega (arith, a .falls .level, fallen-top),
             ranked-row (read S bs) (a .held .proper) i v i (a .falls .row),
           ),
           (fallen-holds t′ (a .long) (a .holds) i (a .joined .is) (a .falls .inside) (a .falls .free), omega (arith, a .joined .draws)),
@@ -167,16 +184,17 @@ module _ {S : Shape} {bs places : List ℕ} {t : Tally} {i v k : ℕ} {b places�
       falls = omega (arith, a .joined .falls, e .1);
     }
 
-    pub fallen-left : (words : List ℕ) {places″ d : List ℕ} {r : Tally} → Left (scanFrom base words i v (running S b places′ t′)) d places″ r
-        → Left (scanFrom base words i v (fall i v (running S bs places t₀))) d places″ r
-    fallen-left words c = left-same (scanFrom-same base words i v fallen-run) c
+    pub fallen-left : (words : List ℕ) {places″ d : List ℕ} {r : Tally} → Left (scanFrom (rulesAt b) words i v (running S b places′ t′)) d places″ r
+        → Left (scanFrom (rulesAt bs) words i v (fall i v (running S bs places t₀))) d places″ r
+    fallen-left words {places″} {d} {r} c =
+        left-same (scanFrom-same (rulesAt bs) words i v fallen-run) (subst (λ (R : Rules). Left (scanFrom R words i v (running S b places′ t′)) d places″ r) fallen-rules c)
 
     -- all counts at i are below the threshold: nobody rises
-    pub fallen-low : (words : List ℕ) → ((w : ℕ) → T (read S bs .owns v w) → phi (ranked v i (read S bs)) w i < base .thr i) → t .draws ≤ takeLimit S
-        → Left (scanFrom base words i v (fall i v (running S bs places t₀))) b places′ t′
+    pub fallen-low : (words : List ℕ) → ((w : ℕ) → T (read S bs .owns v w) → phi (ranked v i (read S bs)) w i < growthAt bs ^ i) → t .draws ≤ takeLimit S
+        → Left (scanFrom (rulesAt bs) words i v (fall i v (running S bs places t₀))) b places′ t′
     unfolding fall ranked
     fallen-low words low x =
         let g = fallen-scans x in
         let r : Run = fall i v (running S bs places t₀) in
-        rw (scanFrom-loop base words i v r ∙ upto-quiet words i (read S bs .owns v) (read S bs .n) r (λ w o u. omega (arith, low w o, due-reached i w (r .state) u)))
+        rw (scanFrom-loop (rulesAt bs) words i v r ∙ upto-quiet (rulesAt bs) words i (read S bs .owns v) (read S bs .n) r (λ w o u. omega (arith, low w o, due-reached (rulesAt bs) i w (r .state) u)))
         (left-same fallen-run (record { rack = g .0 .0 .written; queues = refl; draws = refl; falls = refl; holds = g .1 .1 .0 }))

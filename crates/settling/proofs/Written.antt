@@ -7,8 +7,8 @@ use native.Mathlib.Omega.{arith}
 use lib.Dec.{T}
 use lib.ListN.{length}
 use Rattle.model.specs.Shape.{Shape}
-use Rattle.model.specs.State.{base, State, near, below}
-use Rattle.model.specs.Bytes.{phiAt, read, write}
+use Rattle.model.specs.State.{Kind, State, near, below}
+use Rattle.model.specs.Bytes.{kindAt, topAt, phiAt, read, write}
 use Rattle.model.specs.Moves.{Run, lifted, part, rise, marry, chosen, spent, drawn, draw, promote}
 use Rattle.model.proofs.Limits.{phi-above}
 use Rattle.theory.specs.Waiting.{marks, queuesIn, partQueue}
@@ -16,12 +16,11 @@ use Rattle.theory.proofs.Fits.{lift-is}
 use Rattle.moves.specs.Proper.{Proper, Ordered, Held, RowBelow, tookOver}
 use Rattle.moves.proofs.Edges.{near-low}
 use Rattle.moves.proofs.Keeps.{part-proper, took-proper, took-row, ranked-row, rise-halves}
-use Rattle.moves.proofs.Held.{reads-as, held-of, held-small, held-phi}
+use Rattle.moves.proofs.Held.{reads-as, top-as, held-of, held-small, held-phi}
 use Rattle.settling.specs.Settling.{QueueIs, queueIn, running, HoldsWaitingBut, HoldsWaiting, Left, drawLimit}
 use Rattle.settling.specs.declared.tally.Tally.{Tally}
 use Rattle.settling.proofs.Steps.{SameEdges, lift-below, lift-kept, near-inside, near-other}
 use Rattle.settling.proofs.News.{SameRun, draw-same}
-use Rattle.settling.proofs.Entries.{level-small}
 use Rattle.settling.proofs.Requeuing.{Requeued, queue-of}
 use Rattle.settling.proofs.Holding.{risen-holds, risen-levels, drawn-holds, drawn-levels}
 
@@ -40,9 +39,9 @@ left-same {r} {q} {bs} {places} {t} e a = record {
 }
 
 -- where its state is proper, the bytes that a run leaves hold that state
-pub left-run : {S : Shape} {r : Run} {bs places : List ℕ} {t : Tally} → Left r bs places t → Proper S (r .state) → SameRun (running S bs places t) r
-left-run {S} {r} {bs} {places} {t} a p =
-    let e : read S bs ≡ r .state = reads-as bs (r .state) (a .rack) p in
+pub left-run : {K : Kind} {r : Run} {bs places : List ℕ} {t : Tally} → Left r bs places t → Proper K (r .state) → SameRun (running (K .shape) bs places t) r
+left-run {K} {r} {bs} {places} {t} a p =
+    let e : read (K .shape) bs ≡ r .state = reads-as bs (r .state) (a .rack) p in
     record { state = e; queues = levels-as places t e ∙ a .queues; draws = a .draws; falls = a .falls }
 
 -- the bytes hold an ordered state in which v stands below level i
@@ -51,38 +50,38 @@ pub record Rising (S : Shape) (bs : List ℕ) (i v : ℕ) : Type 0 where
   pub ordered : Ordered (read S bs)
   pub inside : v < read S bs .n
   pub low : read S bs .rank v ≤ i
-  pub level : i ≤ base .top
+  pub level : i ≤ topAt bs
 
 -- what a rise of v to level i asks of a state
-abbrev pub Rises : ℕ → ℕ → State → Type 0
-Rises i v s = ((v < s .n) × (s .rank v ≤ i) × (i ≤ base .top)) × ((w : ℕ) → T (s .owns v w) → s .rank w ≤ i)
+abbrev pub Rises : List ℕ → ℕ → ℕ → State → Type 0
+Rises bs i v s = ((v < s .n) × (s .rank v ≤ i) × (i ≤ topAt bs)) × ((w : ℕ) → T (s .owns v w) → s .rank w ≤ i)
 
 -- what a draw at u among k asks of the bytes, their state, the queue and the tally
 abbrev pub Draws : Shape → List ℕ → ℕ → ℕ → ℕ → List ℕ → Tally → State → Type 0
 Draws S b i u k places t s =
     (Held S b × Ordered s) × (
-    ((u < s .n) × (s .mate u ≡ u) × (s .rank u ≡ suc i) × (i ≤ base .top))
+    ((u < s .n) × (s .mate u ≡ u) × (s .rank u ≡ suc i) × (i ≤ topAt b))
     × ((RowBelow i u s × (1 ≤ below s u i) × (k ≡ below s u i)) × (HoldsWaitingBut u places t s × (t .draws ≤ drawLimit)))
     )
 
-pub draws-of : {S : Shape} {b places : List ℕ} (s : State) → b ≡ write s → Proper S s → (i u k : ℕ) (t : Tally) → Draws S b i u k places t s
-    → Draws S b i u k places t (read S b)
-draws-of {S} {b} {places} s e p i u k t a = subst (Draws S b i u k places t) (sym (reads-as b s e p)) a
+pub draws-of : {K : Kind} {b places : List ℕ} (s : State) → b ≡ write s → Proper K s → (i u k : ℕ) (t : Tally) → Draws (K .shape) b i u k places t s
+    → Draws (K .shape) b i u k places t (read (K .shape) b)
+draws-of {K} {b} {places} s e p i u k t a = subst (Draws (K .shape) b i u k places t) (sym (reads-as b s e p)) a
 
 -- after its rise, a vertex's row holds exactly its neighbours below the level
-lift-row : {S : Shape} (s : State) → Proper S s → Ordered s → (i u : ℕ) → u < s .n → s .rank u ≤ i → RowBelow i u (rise i u (part u s))
+lift-row : {K : Kind} (s : State) → Proper K s → Ordered s → (i u : ℕ) → u < s .n → s .rank u ≤ i → RowBelow i u (rise i u (part u s))
 unfolding part
-lift-row {S} s p o i u l m =
-    let q : Proper S (part u s) = part-proper s p u l in
+lift-row {K} s p o i u l m =
+    let q : Proper K (part u s) = part-proper s p u l in
     subst (RowBelow i u) (rise-halves (part u s) q i u)
     (ranked-row (tookOver i u (part u s)) (took-proper (part u s) q i u l) i u (suc i) (took-row (part u s) q i u (λ w t. omega (arith, o u w t))))
 
 -- the state after v is parted, and after it has risen
 module _ {S : Shape} {bs : List ℕ} {i v : ℕ} (a : Rising S bs i v) where
-  parted-proper : Proper S (part v (read S bs))
+  parted-proper : Proper (kindAt S bs) (part v (read S bs))
   parted-proper = part-proper (read S bs) (a .held .proper) v (a .inside)
 
-  lifted-kept : SameEdges S (read S bs) (rise i v (part v (read S bs)))
+  lifted-kept : SameEdges (kindAt S bs) (read S bs) (rise i v (part v (read S bs)))
   lifted-kept = lift-kept (read S bs) (a .held .proper) (a .ordered) i v (a .inside) (a .low) (a .level)
 
 module _ {S : Shape} {bs : List ℕ} {i v : ℕ} (a : Rising S bs i v) {b : List ℕ} where
@@ -90,11 +89,11 @@ module _ {S : Shape} {bs : List ℕ} {i v : ℕ} (a : Rising S bs i v) {b : List
   parted-read : b ≡ write (part v (read S bs)) → read S b ≡ part v (read S bs)
   parted-read e = reads-as b (part v (read S bs)) e (parted-proper a)
 
-  pub parted-rises : b ≡ write (part v (read S bs)) → (Held S b × Ordered (read S b)) × Rises i v (read S b)
+  pub parted-rises : b ≡ write (part v (read S bs)) → (Held S b × Ordered (read S b)) × Rises b i v (read S b)
   unfolding part
   parted-rises e = (
     (held-of b (part v (read S bs)) e (parted-proper a), subst Ordered (sym (parted-read e)) (a .ordered)),
-    subst (Rises i v) (sym (parted-read e)) ((a .inside, a .low, a .level), (λ w t. omega (arith, a .low, a .ordered v w t))),
+    subst (Rises b i v) (sym (parted-read e)) ((a .inside, a .low, omega (arith, a .level, top-as b (part v (read S bs)) e (parted-proper a))), (λ w t. omega (arith, a .low, a .ordered v w t))),
   )
 
   pub parted-lifts : b ≡ write (part v (read S bs)) → {d : List ℕ} → d ≡ write (rise i v (read S b)) → d ≡ write (rise i v (part v (read S bs)))
@@ -113,7 +112,7 @@ module _ {S : Shape} {bs : List ℕ} {i v : ℕ} (a : Rising S bs i v) {b : List
     -- its count before the rise is how many it draws among
     lifted-count : phiAt S bs v i ≡ below (rise i v (part v (read S bs))) v i
     lifted-count =
-        held-phi (a .held) v i (held-small (a .held) v (a .inside)) (level-small (a .held) i (a .level))
+        held-phi (a .held) v i (held-small (a .held) v (a .inside)) (a .level)
         ∙ phi-above (read S bs) v i (a .low) ∙ sym (lift-below (read S bs) (a .held .proper) (a .ordered) i v (a .inside))
 
     pub lifted-draws : (k : ℕ) → 1 ≤ below (read S bs) v i → t .draws ≤ drawLimit → k ≡ phiAt S bs v i → Draws S b i v k places′ t′ (read S b)
@@ -122,7 +121,7 @@ module _ {S : Shape} {bs : List ℕ} {i v : ℕ} (a : Rising S bs i v) {b : List
         draws-of s e (lifted-kept a .proper) i v k t′ (
           (lifted-held e, lifted-kept a .ordered),
           (
-            (omega (arith, lifted-kept a .size, a .inside), lift-is i v (read S bs) .mate-w, lift-is i v (read S bs) .rank-w, a .level),
+            (omega (arith, lifted-kept a .size, a .inside), lift-is i v (read S bs) .mate-w, lift-is i v (read S bs) .rank-w, omega (arith, a .level, top-as b s e (lifted-kept a .proper))),
             (
               (
                 lift-row (read S bs) (a .held .proper) (a .ordered) i v (a .inside) (a .low),
@@ -155,7 +154,7 @@ pub record Drawing (S : Shape) (bs : List ℕ) (i u y : ℕ) : Type 0 where
   pub near : T (near (read S bs) u i y)
 
 pub drawing-of : {S : Shape} {bs : List ℕ} {i u y : ℕ} → Held S bs → Ordered (read S bs)
-    → (u < read S bs .n) × (read S bs .mate u ≡ u) × (read S bs .rank u ≡ suc i) × (i ≤ base .top) → T (near (read S bs) u i y) → Drawing S bs i u y
+    → (u < read S bs .n) × (read S bs .mate u ≡ u) × (read S bs .rank u ≡ suc i) × (i ≤ topAt bs) → T (near (read S bs) u i y) → Drawing S bs i u y
 drawing-of {S} {bs} {i} {u} {y} h o l n = record {
   rising = record { held = h; ordered = o; inside = near-inside (read S bs) (h .proper) u i y n; low = near-low (read S bs) u i y n; level = l .3 };
   inside = l .0;

@@ -8,8 +8,8 @@ use Prim.Native.Nat.{ℕ, suc, _-_, _≤_, _<_}
 use lib.ListN.{length, take}
 use Rattle.model.specs.Lists.{Mem, Distinct, Lists}
 use Rattle.model.specs.Shape.{Shape}
-use Rattle.model.specs.State.{Rules, State, base, below}
-use Rattle.model.specs.Bytes.{read, write}
+use Rattle.model.specs.State.{Rules, State, below}
+use Rattle.model.specs.Bytes.{topAt, read, write}
 use Rattle.model.specs.Moves.{Run, due, promote, Found, none, found}
 use Rattle.theory.specs.Waiting.{marks, Waits, Paired, queuesIn}
 use Rattle.moves.specs.Proper.{RowBelow}
@@ -65,7 +65,7 @@ pub record Falling (S : Shape) (bs : List ℕ) (i v k : ℕ) : Type 0 where
   pub inside : v < read S bs .n
   pub free : read S bs .mate v ≡ v
   pub rank : read S bs .rank v ≡ suc i
-  pub level : i ≤ base .top
+  pub level : i ≤ topAt bs
   pub row : RowBelow i v (read S bs)
   pub size : k ≡ below (read S bs) v i
 

@@ -6,8 +6,8 @@ ghost use Prim.Native.Nat.{suc, _<_, _≤_};
 ghost use lib.ListN.{length, take as front};
 ghost use Rattle.model.specs.Shape.{low};
 ghost use Rattle.model.specs.Lists.{All, Mem, Distinct};
-ghost use Rattle.model.specs.State.{base, below};
-ghost use Rattle.model.specs.Bytes.{read, write};
+ghost use Rattle.model.specs.State.{below};
+ghost use Rattle.model.specs.Bytes.{topAt, rulesAt, read, write};
 ghost use Rattle.model.specs.Moves.{part as parted, rise as risen, draw as drawn, promote as promoted, without, fall as fallen, scanFrom, take as taken, pick as picked, settle as settled};
 ghost use Rattle.theory.specs.Waiting.{marks, queuesIn, joinQueue, partQueue};
 ghost use Rattle.moves.specs.Proper.{Ordered, Held, RowBelow};
@@ -61,7 +61,7 @@ fn requeue(rack: &[u8], queue: &mut [u16], v: usize, waiting: u32) -> u32
 // v loses its mate if it has one, which joins the queue, and rises to i.
 fn lift(rack: &mut [u8], queue: &mut [u16], v: usize, i: usize, waiting: u32) -> u32
     requires { ⌜ (Held low (now rack)) × (Ordered (read low (now rack))) ⌝ }
-    requires { ⌜ (v < read low (now rack) .n) × (read low (now rack) .rank v ≤ i) × (i ≤ base .top) ⌝ }
+    requires { ⌜ (v < read low (now rack) .n) × (read low (now rack) .rank v ≤ i) × (i ≤ topAt (now rack)) ⌝ }
     requires { ⌜ CanPart (read low (now rack)) v (now queue) waiting ⌝ }
     ensures { λ _. ⌜ now (rack .exit) ≡ write (risen i v (parted v (read low (now (rack .entry))))) ⌝ }
     ensures { λ r. ⌜ QueueIs (partQueue (marks (read low (now (rack .entry)))) v (front waiting (now (queue .entry)))) (now (queue .exit)) r ⌝ }
@@ -83,7 +83,7 @@ fn draw(
     tally: Tally,
 ) -> Tally
     requires { ⌜ (Held low (now rack)) × (Ordered (read low (now rack))) ⌝ }
-    requires { ⌜ (u < read low (now rack) .n) × (read low (now rack) .mate u ≡ u) × (read low (now rack) .rank u ≡ suc i) × (i ≤ base .top) ⌝ }
+    requires { ⌜ (u < read low (now rack) .n) × (read low (now rack) .mate u ≡ u) × (read low (now rack) .rank u ≡ suc i) × (i ≤ topAt (now rack)) ⌝ }
     requires { ⌜ (RowBelow i u (read low (now rack))) × (1 ≤ below (read low (now rack)) u i) × (k ≡ below (read low (now rack)) u i) ⌝ }
     requires { ⌜ (HoldsWaitingBut u (now queue) tally (read low (now rack))) × (tally .draws ≤ drawLimit) ⌝ }
     ensures { λ r. ⌜ Left (drawn (now (words .entry)) i u (running low (now (rack .entry)) (now (queue .entry)) tally)) (now (rack .exit)) (now (queue .exit)) r ⌝ }
@@ -106,7 +106,7 @@ pub fn promote(
     tally: Tally,
 ) -> Tally
     requires { ⌜ (Held low (now rack)) × (Ordered (read low (now rack))) ⌝ }
-    requires { ⌜ (u < read low (now rack) .n) × (read low (now rack) .rank u ≤ i) × (i ≤ base .top) × (1 ≤ below (read low (now rack)) u i) ⌝ }
+    requires { ⌜ (u < read low (now rack) .n) × (read low (now rack) .rank u ≤ i) × (i ≤ topAt (now rack)) × (1 ≤ below (read low (now rack)) u i) ⌝ }
     requires { ⌜ (HoldsWaiting (now queue) tally (read low (now rack))) × (tally .draws ≤ drawLimit) ⌝ }
     ensures { λ r. ⌜ Left (promoted (now (words .entry)) i u (running low (now (rack .entry)) (now (queue .entry)) tally)) (now (rack .exit)) (now (queue .exit)) r ⌝ }
 {
@@ -115,7 +115,7 @@ pub fn promote(
     draw(rack, queue, words, u, i, k, tally.waits(waiting))
 }
 
-// A vertex's turn in the scan: "each one that is below i with a count at i of at least 4^i" is promoted.
+// A vertex's turn in the scan: "each one that is below i with a count at i of at least" the threshold is promoted.
 fn visit(
     rack: &mut [u8],
     queue: &mut [u16],
@@ -125,14 +125,14 @@ fn visit(
     tally: Tally,
 ) -> Tally
     requires { ⌜ (Held low (now rack)) × (Ordered (read low (now rack))) ⌝ }
-    requires { ⌜ (w < read low (now rack) .n) × (i ≤ base .top) ⌝ }
+    requires { ⌜ (w < read low (now rack) .n) × (i ≤ topAt (now rack)) ⌝ }
     requires { ⌜ (HoldsWaiting (now queue) tally (read low (now rack))) × (tally .draws ≤ drawLimit) ⌝ }
-    ensures { λ r. ⌜ Left (visited base (now (words .entry)) i w (running low (now (rack .entry)) (now (queue .entry)) tally)) (now (rack .exit)) (now (queue .exit)) r ⌝ }
+    ensures { λ r. ⌜ Left (visited (rulesAt (now (rack .entry))) (now (words .entry)) i w (running low (now (rack .entry)) (now (queue .entry)) tally)) (now (rack .exit)) (now (queue .exit)) r ⌝ }
 {
     if i < layout::rank(rack, w) as usize {
         return tally;
     }
-    if layout::phi(rack, w, i) < layout::threshold(i) {
+    if (layout::phi(rack, w, i) as u16) < layout::settings::threshold(rack, i) {
         return tally;
     }
     promote(rack, queue, words, w, i, tally)
@@ -149,9 +149,9 @@ fn scan(
     tally: Tally,
 ) -> Tally
     requires { ⌜ (Held low (now rack)) × (Ordered (read low (now rack))) ⌝ }
-    requires { ⌜ (v < read low (now rack) .n) × (i ≤ base .top) × (RowBelow i v (read low (now rack))) ⌝ }
+    requires { ⌜ (v < read low (now rack) .n) × (i ≤ topAt (now rack)) × (RowBelow i v (read low (now rack))) ⌝ }
     requires { ⌜ (HoldsWaiting (now queue) tally (read low (now rack))) × (tally .draws ≤ takeLimit low) ⌝ }
-    ensures { λ r. ⌜ Left (scanFrom base (now (words .entry)) i v (running low (now (rack .entry)) (now (queue .entry)) tally)) (now (rack .exit)) (now (queue .exit)) r ⌝ }
+    ensures { λ r. ⌜ Left (scanFrom (rulesAt (now (rack .entry))) (now (words .entry)) i v (running low (now (rack .entry)) (now (queue .entry)) tally)) (now (rack .exit)) (now (queue .exit)) r ⌝ }
 {
     let mut t = tally;
     let mut at = layout::walk::first(rack, v);
@@ -188,7 +188,7 @@ fn fall(
     requires { ⌜ (Held low (now rack)) × (Ordered (read low (now rack))) ⌝ }
     requires { ⌜ Falling low (now rack) i v k ⌝ }
     requires { ⌜ (HoldsWaitingBut v (now queue) tally (read low (now rack))) × (Room (takeLimit low) fallLimit tally) ⌝ }
-    ensures { λ r. ⌜ Left (scanFrom base (now (words .entry)) i v (fallen i v (running low (now (rack .entry)) (now (queue .entry)) tally))) (now (rack .exit)) (now (queue .exit)) r ⌝ }
+    ensures { λ r. ⌜ Left (scanFrom (rulesAt (now (rack .entry))) (now (words .entry)) i v (fallen i v (running low (now (rack .entry)) (now (queue .entry)) tally))) (now (rack .exit)) (now (queue .exit)) r ⌝ }
 {
     let low = moves::fall(rack, v, i, k);
     let fell = tally.fell();
@@ -210,14 +210,14 @@ fn take(
     tally: Tally,
 ) -> Tally
     requires { ⌜ (Held low (now rack)) × (Ordered (read low (now rack))) ⌝ }
-    requires { ⌜ (v < read low (now rack) .n) × (read low (now rack) .mate v ≡ v) × (read low (now rack) .rank v ≡ suc i) × (i ≤ base .top) ⌝ }
+    requires { ⌜ (v < read low (now rack) .n) × (read low (now rack) .mate v ≡ v) × (read low (now rack) .rank v ≡ suc i) × (i ≤ topAt (now rack)) ⌝ }
     requires { ⌜ (HoldsWaiting (now queue) tally (read low (now rack))) × (Room (takeLimit low) fallLimit tally) ⌝ }
-    ensures { λ r. ⌜ Left (taken base (now (words .entry)) i v (running low (now (rack .entry)) (now (queue .entry)) tally)) (now (rack .exit)) (now (queue .exit)) r ⌝ }
+    ensures { λ r. ⌜ Left (taken (rulesAt (now (rack .entry))) (now (words .entry)) i v (running low (now (rack .entry)) (now (queue .entry)) tally)) (now (rack .exit)) (now (queue .exit)) r ⌝ }
 {
     let waiting = leave(queue, v, tally.waiting);
     let t = tally.waits(waiting);
     let k = moves::hand_over(rack, v, i).below;
-    if layout::threshold(i) as usize <= k {
+    if layout::settings::threshold(rack, i) as usize <= k {
         return draw(rack, queue, words, v, i, k, t);
     }
     fall(rack, queue, words, v, i, k, t)
@@ -228,7 +228,7 @@ fn take(
 fn pick(rack: &[u8], queue: &[u16], k: usize) -> Choice
     requires { ⌜ Held low (now rack) ⌝ }
     requires { ⌜ (k ≤ length (now queue)) × (All (λ v. v < read low (now rack) .n) (front k (now queue))) ⌝ }
-    ensures { λ r. ⌜ foundBy r ≡ picked (suc (base .top)) (queuesIn (read low (now (rack .entry)) .rank) (front k (now (queue .entry)))) ⌝ }
+    ensures { λ r. ⌜ foundBy r ≡ picked (suc (topAt (now (rack .entry)))) (queuesIn (read low (now (rack .entry)) .rank) (front k (now (queue .entry)))) ⌝ }
 {
     let mut best = 0;
     let mut at = 0;
@@ -255,9 +255,9 @@ fn pick(rack: &[u8], queue: &[u16], k: usize) -> Choice
 pub fn settle(rack: &mut [u8], queue: &mut [u16], words: &[u32], tally: Tally) -> Tally
     requires { ⌜ (Held low (now rack)) × (Ordered (read low (now rack))) ⌝ }
     requires { ⌜ (HoldsWaiting (now queue) tally (read low (now rack))) × (Room (suc (length (now words))) 0 tally) ⌝ }
-    ensures { λ r. ⌜ Left (settled base (now (words .entry)) (running low (now (rack .entry)) (now (queue .entry)) tally)) (now (rack .exit)) (now (queue .exit)) r ⌝ }
+    ensures { λ r. ⌜ Left (settled (rulesAt (now (rack .entry))) (now (words .entry)) (running low (now (rack .entry)) (now (queue .entry)) tally)) (now (rack .exit)) (now (queue .exit)) r ⌝ }
 {
-    let mut left = layout::size(rack) * (layout::top() + 1);
+    let mut left = layout::size(rack) * (layout::settings::top(rack) as usize + 1);
     let mut t = tally;
     while 0 < left {
         let Choice::At { i, v } = pick(rack, queue, t.waiting as usize) else {

@@ -2,10 +2,13 @@
 use Prim.Native.Nat.{ℕ, _+_, _*_}
 use Rattle.model.specs.Shape.{low}
 
--- how many bytes a printer is lent at least: no first line, answer's line, pair's line, end line and line of a
--- run turned back, of figures of 32 bits, is longer
+-- how many bytes a printer is lent at least: no short first line, first line of either form, answer's line, pair's line, end line and
+-- line of a run turned back, of figures of 32 bits, is longer
+abbrev pub shortRoom : ℕ
+shortRoom = 27
+
 abbrev pub rackRoom : ℕ
-rackRoom = 27
+rackRoom = 64
 
 abbrev pub answerRoom : ℕ
 answerRoom = 64

@@ -5,7 +5,7 @@ use mathlib.Core.List.{List}
 use Prim.Native.Nat.{ℕ, _<_}
 use native.Mathlib.Omega.{arith}
 use Rattle.model.specs.Shape.{Shape}
-use Rattle.model.specs.State.{State, base, edge}
+use Rattle.model.specs.State.{State, edge}
 use Rattle.model.specs.Bytes.{read}
 use Rattle.model.specs.Ledger.{Ledger, links}
 use Rattle.model.proofs.Facts.{sound-says}
@@ -27,7 +27,7 @@ crowding {S} l bs F = record {
 }
   where
     some : 0 < l .n
-    some = omega (arith, F .size, sound-says base S bs .fact (F .is-sound) .size .0)
+    some = omega (arith, F .size, sound-says S bs .fact (F .is-sound) .size .0)
 
     turn : (v w : ℕ) → l .there v w ≡ l .there w v
     turn v w = sym (F .links v w) ∙ turned (read S bs) v w ∙ F .links w v

@@ -10,7 +10,7 @@ use native.Mathlib.Omega.{arith}
 use lib.Dec.{T, eqb, leb}
 use lib.ListN.{getD}
 use Rattle.model.specs.Counting.{sum, count}
-use Rattle.model.specs.State.{Rules, lowKind, State, base, edge, near, below}
+use Rattle.model.specs.State.{Rules, rules, lowKind, State, edge, near, below}
 use Rattle.model.specs.Valid.{Valid}
 use Rattle.model.specs.Moves.{Run, found, ownedBy, handOver, pick}
 use Rattle.model.specs.Change.{Change, early}
@@ -94,7 +94,7 @@ module _ (P : Setting) (E : Simple (P .n) (P .edge)) (i v : ℕ) (s : State) (F 
 
 -- A hand-over of any vertex, in any state with one owner for each edge, no lower than the other end.
 pub parts : (s : State) → Simple (s .n) (edge s) → Owns (edge s) (s .owns) (marks s) → (i v : ℕ) → s .rank v ≡ suc i → Parts i v s (handOver i v s)
-parts s E O i v e = fits-parts (setting base s) E i v s (record { kind = refl; size = refl; owners = O }) e
+parts s E O i v e = fits-parts (setting (rules (s .kind)) s) E i v s (record { kind = refl; size = refl; owners = O }) e
 
 -- Each taking of every change of a valid state that none of 7 to 11 fits, so of every accepted one.
 pub taken-parts : (R : Rules) → ((j : ℕ) → 1 ≤ R .thr j) → (s : State) → Valid R s → (c : Change) → early (s .n) (edge s) c ≡ 0

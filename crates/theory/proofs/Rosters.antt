@@ -7,7 +7,6 @@ use native.Mathlib.Omega.{arith}
 use lib.Dec.{T, eqb, eqb→eq}
 use Rattle.model.specs.Counting.{sum, bit, count}
 use Rattle.model.specs.Shape.{Shape, GoodShape, low}
-use Rattle.model.specs.State.{base}
 use Rattle.model.specs.Bytes.{sizeAt, rankAt, rosterAt}
 use Rattle.model.specs.Sound.{sound}
 use Rattle.model.specs.Valid.{IsBytes}
@@ -17,7 +16,7 @@ use Rattle.model.specs.Ledger.{Ledger, ledgerOf, enteredAll}
 use Rattle.model.proofs.Tests.{le?, true-T, eqb-yes}
 use Rattle.model.proofs.Counting.{sum-eq, count-all, count-single}
 use Rattle.model.proofs.Sums.{sum-swap}
-use Rattle.model.proofs.Shapes.{low-good, low-room}
+use Rattle.model.proofs.Shapes.{low-good}
 use Rattle.model.proofs.Facts.{Facts as Tested, sound-says}
 use Rattle.model.proofs.Rosters.{roster-size}
 use Rattle.theory.specs.Demand.{toldAll, lastRack, Facts}
@@ -32,13 +31,13 @@ sorted f m n h =
     λ v l. count-single (eqb (f v)) (f v) m (h v l) (true-T (eqb-yes (f v) (f v) refl)) (λ r t. sym (eqb→eq (f v) r t)) in
     sum-swap (λ r v. bit (eqb (f v) r)) m n ∙ sum-eq _ (λ v. 1) n single ∙ count-all n
 
-module _ {S : Shape} (room : base .top < S .levels) {l : Ledger} {bs : List ℕ} (F : Facts S l bs) where
-  tested : Tested base S bs
-  tested = sound-says base S bs .fact (F .is-sound)
+module _ {S : Shape} {l : Ledger} {bs : List ℕ} (F : Facts S l bs) where
+  tested : Tested S bs
+  tested = sound-says S bs .fact (F .is-sound)
 
   -- a vertex's rank has a roster
   ranked : (v : ℕ) → v < l .n → rankAt bs v < suc (S .levels)
-  ranked v b = omega (arith, tested .ranks v (omega (arith, F .size)))
+  ranked v b = omega (arith, tested .settings .room, tested .ranks v (omega (arith, F .size)))
 
   in-roster : (r v : ℕ) → r ≤ S .levels → v < S .most → T (rosterAt S bs r v) ↔ ((v < l .n) × (rankAt bs v ≡ r))
   in-roster r v h b = (
@@ -66,11 +65,11 @@ module _ {S : Shape} (room : base .top < S .levels) {l : Ledger} {bs : List ℕ}
   }
 
 -- After any list of changes, from any sound rack of any good shape.
-pub rosters-after : (S : Shape) → GoodShape S → base .top < S .levels → (bs : List ℕ) → IsBytes bs → T (sized S bs) → T (sound base S bs)
+pub rosters-after : (S : Shape) → GoodShape S → (bs : List ℕ) → IsBytes bs → T (sized S bs) → T (sound S bs)
     → (cs : List Change) → Rosters S (enteredAll (ledgerOf S bs) (toldAll S bs cs)) (lastRack S bs cs)
-rosters-after S good room bs by sz so cs = rosters-of room (demand-three S good room bs by sz so cs .last)
+rosters-after S good bs by sz so cs = rosters-of (demand-three S good bs by sz so cs .last)
 
 -- The rack of the papers, of 10,152 bytes.
-pub rosters-low : (bs : List ℕ) → IsBytes bs → T (sized low bs) → T (sound base low bs) → (cs : List Change)
+pub rosters-low : (bs : List ℕ) → IsBytes bs → T (sized low bs) → T (sound low bs) → (cs : List Change)
     → Rosters low (enteredAll (ledgerOf low bs) (toldAll low bs cs)) (lastRack low bs cs)
-rosters-low = rosters-after low low-good low-room
+rosters-low = rosters-after low low-good

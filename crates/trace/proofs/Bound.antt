@@ -10,12 +10,12 @@ use lib.Dec.{T, ltb}
 use lib.ListN.{length, length-append}
 use Rattle.model.specs.Counting.{listed}
 use Rattle.model.specs.Shape.{low}
-use Rattle.model.specs.State.{Rules, State, lowKind, edges, pairs, empty}
+use Rattle.model.specs.State.{Rules, rules, State, edges, pairs}
 use Rattle.model.specs.Text.{bytes, largest}
 use Rattle.model.specs.Change.{Change, change}
 use Rattle.model.specs.Lists.{All}
 use Rattle.model.specs.Trace.{LineChange, Trace, traceText, rackLine, changeLine}
-use Rattle.model.specs.Record.{answerLine, pairLine, Mean, mean, endText, endLine, pairLines, changesText, recordText}
+use Rattle.model.specs.Record.{answerLine, pairLine, Mean, mean, endText, endLine, pairLines, changesText, kindOf, rackOf, recordText}
 use Rattle.model.specs.Run.{longest, spaceLength}
 use Rattle.model.proofs.Counting.{count-bound}
 use Rattle.model.proofs.Lists.{listed-length, listed-all}
@@ -30,7 +30,8 @@ use Rattle.trace.proofs.Whole.{change-least}
 -- The space that a run needs.
 
 -- line 1, the line of each change, and those after them
-pub space-enough : (t : Trace) → length (traceText t) ≤ longest → length (rackLine (t .n)) + answerRoom * length (t .changes) + endingRoom ≤ spaceLength
+pub space-enough : (t : Trace) → length (traceText t) ≤ longest
+    → length (rackLine (t .n) (t .settings)) + answerRoom * length (t .changes) + endingRoom ≤ spaceLength
 unfolding traceText
 space-enough t short = omega (arith, simp length-append at short, texts-least changeLine 20 change-least (t .changes))
 
@@ -101,12 +102,15 @@ module _ (R : Rules) (Good : State → Type 0) (bounded : Bounded R Good) where
         mul-suc answerRoom (length cs),
       )
 
-  pub record-fits : (t : Trace) → Good (empty lowKind (t .n)) → All LineChange (t .changes) → length (traceText t) ≤ longest → length (recordText R t) ≤ spaceLength
-  unfolding recordText
-  record-fits t g lines short =
-      omega (
-        arith,
-        space-enough t short,
-        length-append (rackLine (t .n)) (changesText R (empty lowKind (t .n)) (t .changes)),
-        changes-most (empty lowKind (t .n)) (t .changes) g lines,
-      )
+-- for the rules of line 1, and the rack that it asks for
+pub record-fits : (t : Trace) (Good : State → Type 0) → Bounded (rules (kindOf t)) Good → Good (rackOf t) → All LineChange (t .changes)
+    → length (traceText t) ≤ longest → length (recordText t) ≤ spaceLength
+unfolding recordText
+record-fits t Good bounded g lines short =
+    let R : Rules = rules (kindOf t) in
+    omega (
+      arith,
+      space-enough t short,
+      length-append (rackLine (t .n) (t .settings)) (changesText R (rackOf t) (t .changes)),
+      changes-most R Good bounded (rackOf t) (t .changes) g lines,
+    )

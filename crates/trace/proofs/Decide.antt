@@ -9,7 +9,7 @@ use lib.ListN.{length}
 use Rattle.model.specs.Lists.{All}
 use Rattle.model.specs.Text.{largest, texts}
 use Rattle.model.specs.Change.{Change}
-use Rattle.model.specs.Trace.{Trace, Holds, traceText, rackLine, changeLine, LineChange, onFirst, linesOf, IsRackLine, IsChangeLine, FirstBadChange, FirstBad}
+use Rattle.model.specs.Trace.{Settings, short, long, growthOf, topOf, SettingsFit, Trace, Holds, traceText, rackLine, changeLine, LineChange, onFirst, linesOf, IsRackLine, IsChangeLine, FirstBadChange, FirstBad}
 use Rattle.model.proofs.Tests.{eq?}
 use Rattle.trace.proofs.Lines.{lines-feed, lines-other}
 
@@ -69,8 +69,36 @@ list? m (suc k) P d = elim (d []) [
 
 -- A line.
 
+-- l is line 1 in its short form, and in its long one
+abbrev ShortLine : List ℕ → Type 0
+ShortLine l = SomeNumber largest (λ (n : ℕ). l ≡ rackLine n short)
+
+abbrev LongLine : List ℕ → Type 0
+LongLine l = SomeNumber largest (λ (n : ℕ). SomeNumber largest (λ (growth : ℕ). SomeNumber largest (λ (top : ℕ). l ≡ rackLine n (long growth top))))
+
+short? : (l : List ℕ) → Decided (ShortLine l)
+short? l = number? largest (λ (n : ℕ). l ≡ rackLine n short) (λ n. lists? l (rackLine n short))
+
+long? : (l : List ℕ) → Decided (LongLine l)
+long? l =
+    number? largest (λ (n : ℕ). SomeNumber largest (λ (growth : ℕ). SomeNumber largest (λ (top : ℕ). l ≡ rackLine n (long growth top))))
+    (λ n. number? largest (λ (growth : ℕ). SomeNumber largest (λ (top : ℕ). l ≡ rackLine n (long growth top)))
+    (λ growth. number? largest (λ (top : ℕ). l ≡ rackLine n (long growth top)) (λ top. lists? l (rackLine n (long growth top)))))
+
+no-rack : (l : List ℕ) → (ShortLine l → ⊥) → (LongLine l → ⊥) → (n : ℕ) (x : Settings) → n ≤ largest → SettingsFit x → l ≡ rackLine n x → ⊥
+unfolding growthOf topOf
+no-rack l f g n short p q e = f (n, p, e)
+no-rack l f g n (long growth top) p q e = g (n, p, (growth, q .0, (top, q .1, e)))
+
 rack? : (l : List ℕ) → Decided (IsRackLine l)
-rack? l = number? largest (λ (n : ℕ). l ≡ rackLine n) (λ n. lists? l (rackLine n))
+unfolding growthOf topOf
+rack? l = elim (short? l) [
+  | inl (n, p, e) ↦ inl (n, short, p, (omega arith, omega arith), e)
+  | inr f ↦ elim (long? l) [
+    | inl (n, p, (growth, q, (top, r, e))) ↦ inl (n, long growth top, p, (q, r), e)
+    | inr g ↦ inr (λ k. no-rack l f g (k .0) (k .1) (k .2) (k .3) (k .4))
+  ]
+]
 
 abbrev of : ℕ → ℕ → ℕ → List ℕ → Change
 of code a b words = record { code = code; a = a; b = b; words = words }
@@ -154,7 +182,8 @@ kind-of text = go (linesOf text) refl (joined text)
       | inl g ↦ elim (changes? ls) [
         | inr b ↦ bad (l ∷ ls) is (suc (suc (b .0))) (g, b .1)
         | inl q ↦
-            let printed = sym e ∙ (λ i. g .2 i ++ q .2 i) in
-            trace-text (record { n = g .0; changes = q .0 }) (record { n-fits = g .1; changes-fit = q .1; printed = printed })
+            let printed = sym e ∙ (λ i. g .4 i ++ q .2 i) in
+            trace-text (record { n = g .0; settings = g .1; changes = q .0 })
+            (record { n-fits = g .2; settings-fit = g .3; changes-fit = q .1; printed = printed })
       ]
     ]

@@ -1,6 +1,6 @@
 -- Laws of the lines of a text: a printed line is one line, and the first line of a text at which no good line stands doesn't fit.
 -- Assumes nothing.
-use Prim.Native.Nat.{ℕ, suc, _≤_, _<_}
+use Prim.Native.Nat.{ℕ, suc, _<_}
 use mathlib.Core.Path.{_≡_, refl, sym, ap, _∙_, subst}
 use mathlib.Core.Logic.{inl, inr}
 use mathlib.Core.Bool.{Bool, true, false}
@@ -9,12 +9,13 @@ use native.Mathlib.Omega.{arith}
 use lib.ListN.{length}
 use borrow.Author.Tests.{ne-eqb}
 use Rattle.model.specs.Lists.{All}
-use Rattle.model.specs.Text.{bytes, decimal, largest, texts}
+use Rattle.model.specs.Text.{bytes, decimal, texts}
 use Rattle.model.specs.Change.{Change}
-use Rattle.model.specs.Trace.{rackLine, codeText, wordText, changeLine, LineChange, onFirst, linesOf, FirstBadChange, FirstBad}
+use Rattle.model.specs.Trace.{Settings, short, long, settingsText, rackLine, codeText, wordText, changeLine, LineChange, onFirst, linesOf, FirstBadChange, FirstBad}
 use Rattle.model.proofs.Tests.{eq?}
 use Rattle.text.specs.Number.{isDigit}
 use Rattle.text.proofs.Decimals.{Digits, none, more, decimal-digits}
+use Rattle.lines.specs.Pieces.{firstLine, FitFirst}
 use Rattle.lines.proofs.Laws.{code-text}
 
 -- A line: no line feed but the one at its end.
@@ -51,9 +52,26 @@ one-more p f o = record {
 one-end : OneLine (bytes "))\n")
 one-end = record { body = 41 ∷ 41 ∷ []; clean = omega arith; whole = refl }
 
-pub rack-line : (n : ℕ) → OneLine (rackLine n)
+settings-clean : (x : Settings) → NoFeed (settingsText x)
+unfolding settingsText
+settings-clean short = tt
+settings-clean (long growth top) =
+    let top-on = decimal top ++ bytes ")" in
+    let growth-on = decimal growth ++ (bytes ") (top " ++ top-on) in
+    let before : NoFeed (bytes " (growth ") = omega arith in
+    let between : NoFeed (bytes ") (top ") = omega arith in
+    let end : NoFeed (bytes ")") = omega arith in
+    no-feed-append (bytes " (growth ") growth-on before
+    (no-feed-append (decimal growth) (bytes ") (top " ++ top-on) (no-feed-decimal growth)
+    (no-feed-append (bytes ") (top ") top-on between (no-feed-append (decimal top) (bytes ")") (no-feed-decimal top) end)))
+
+pub rack-line : (n : ℕ) (x : Settings) → OneLine (rackLine n x)
 unfolding rackLine
-rack-line n = one-more (bytes "(rack (boards ") (omega arith) (one-more (decimal n) (no-feed-decimal n) one-end)
+rack-line n x =
+    one-more (bytes "(rack (boards ") (omega arith)
+    (one-more (decimal n) (no-feed-decimal n)
+    (one-more (bytes ")") (omega arith)
+    (one-more (settingsText x) (settings-clean x) (record { body = 41 ∷ []; clean = omega arith; whole = refl }))))
 
 code-clean : (code : ℕ) → NoFeed (codeText code)
 code-clean code = elim (code-text code) [ inl e ↦ subst NoFeed (sym e) (omega arith) | inr e ↦ subst NoFeed (sym e) (omega arith) ]
@@ -114,12 +132,13 @@ first-at (b ∷ t) =
 -- The first line that does not fit.
 
 -- some text is there, and no rack line stands at its start: line 1 does not fit
-pub bad-rack : (s : List ℕ) → 0 < length s → ((n : ℕ) (rest : List ℕ) → n ≤ largest → s ≡ rackLine n ++ rest → ⊥) → FirstBad (linesOf s) 1
+pub bad-rack : (s : List ℕ) → 0 < length s
+    → ((x : ℕ × Settings) (rest : List ℕ) → FitFirst x → s ≡ firstLine x ++ rest → ⊥) → FirstBad (linesOf s) 1
 bad-rack s some absent = go (linesOf s) (first-at s)
   where
     go : (ls : List (List ℕ)) → FirstAt s ls → FirstBad ls 1
     go [] h = absurd (omega (arith, ap length h))
-    go (l ∷ ls) h = unfold FirstBad in (λ k. absent (k .0) (h .0) (k .1) (h .1 ∙ ap (λ (u : List ℕ). u ++ h .0) (k .2)))
+    go (l ∷ ls) h = unfold FirstBad in (λ k. absent (k .0, k .1) (h .0) (k .2, k .3) (h .1 ∙ ap (λ (u : List ℕ). u ++ h .0) (k .4)))
 
 -- no change's line stands at the start of t
 abbrev NoChange : List ℕ → Type 0
@@ -141,9 +160,9 @@ bad-after (c ∷ cs) t g some absent =
     ap linesOf (append-assoc (changeLine c) (texts changeLine cs) t) ∙ line-then (texts changeLine cs ++ t) (change-line c) in
     subst (λ (ls : List (List ℕ)). FirstBadChange ls (suc (length cs))) (sym e) ((c, g .0, refl), bad-after cs t (g .1) some absent)
 
-pub bad-change : (s : List ℕ) (n : ℕ) (cs : List Change) (t : List ℕ) → n ≤ largest → All LineChange cs → s ≡ rackLine n ++ (texts changeLine cs ++ t)
-    → 0 < length t → NoChange t → FirstBad (linesOf s) (suc (suc (length cs)))
+pub bad-change : (s : List ℕ) (x : ℕ × Settings) (cs : List Change) (t : List ℕ) → FitFirst x → All LineChange cs
+    → s ≡ firstLine x ++ (texts changeLine cs ++ t) → 0 < length t → NoChange t → FirstBad (linesOf s) (suc (suc (length cs)))
 unfolding FirstBad
-bad-change s n cs t small g e some absent =
-    let l : linesOf s ≡ rackLine n ∷ linesOf (texts changeLine cs ++ t) = ap linesOf e ∙ line-then (texts changeLine cs ++ t) (rack-line n) in
-    subst (λ (ls : List (List ℕ)). FirstBad ls (suc (suc (length cs)))) (sym l) ((n, small, refl), bad-after cs t g some absent)
+bad-change s x cs t fit g e some absent =
+    let l : linesOf s ≡ firstLine x ∷ linesOf (texts changeLine cs ++ t) = ap linesOf e ∙ line-then (texts changeLine cs ++ t) (rack-line (x .0) (x .1)) in
+    subst (λ (ls : List (List ℕ)). FirstBad ls (suc (suc (length cs)))) (sym l) ((x .0, x .1, fit .0, fit .1, refl), bad-after cs t g some absent)

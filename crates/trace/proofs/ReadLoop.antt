@@ -13,12 +13,13 @@ use native.Mathlib.Omega.{arith}
 use lib.ListN.{length, take, drop, length-drop, drop-of-length-le}
 use lib.Seq.{length-take-le}
 use Rattle.model.specs.Lists.{All}
-use Rattle.model.specs.Text.{largest, texts, over}
+use Rattle.model.specs.Text.{texts, over}
 use Rattle.model.specs.Run.{longest}
 use Rattle.model.specs.Change.{Change}
-use Rattle.model.specs.Trace.{traceText, rackLine, changeLine, LineChange, linesOf, FirstBad}
+use Rattle.model.specs.Trace.{Settings, traceText, changeLine, LineChange, linesOf, FirstBad}
 use Rattle.text.proofs.Texts.{all-snoc}
-use Rattle.lines.specs.Contracts.{RackAt, ChangeAt, changeOf}
+use Rattle.lines.specs.Pieces.{firstLine, FitFirst}
+use Rattle.lines.specs.Contracts.{namedBy, RackAt, ChangeAt, changeOf}
 use Rattle.lines.specs.declared.RackRead.{RackRead}
 use Rattle.lines.specs.declared.RackRead.the-variants.{Rack, NoRack}
 use Rattle.lines.specs.declared.ChangeRead.{ChangeRead}
@@ -36,6 +37,10 @@ pub record Stand : Type 0 where
   pub got : Progress
   pub heads : List ℕ
   pub words : List ℕ
+
+-- what line 1 said
+abbrev firstOf : Stand → ℕ × Settings
+firstOf s = (s .got .n, namedBy (s .got .settings))
 
 -- what is asked of the three slices
 abbrev pub Asked : List ℕ → List ℕ → List ℕ → Type 0
@@ -56,11 +61,11 @@ module _ (text heads₀ words₀ : List ℕ) where
   -- the lines read so far are line 1 and the changes, which are kept
   record Read (s : Stand) : Type 0 where
     pub within : s .at ≤ length text
-    pub fits : s .got .n ≤ largest
+    pub fits : FitFirst (firstOf s)
     pub far : 20 * s .got .changes + 2 * s .got .words ≤ s .at
     pub changes : List Change
     pub fit : All LineChange changes
-    pub stands : text ≡ rackLine (s .got .n) ++ (texts changeLine changes ++ drop (s .at) text)
+    pub stands : text ≡ firstLine (firstOf s) ++ (texts changeLine changes ++ drop (s .at) text)
     pub number : s .got .changes ≡ length changes
     pub sum : s .got .words ≡ total changes
     pub kept : Kept (s .heads) (s .words) changes
@@ -80,7 +85,7 @@ module _ (text heads₀ words₀ : List ℕ) where
 
   by-rack : (r : RackRead) → 0 < length text → RackAt text 0 r → Inv (begun (pastRack 0 r) (withRack r))
   unfolding texts
-  by-rack (Rack n next) some f = record {
+  by-rack (Rack n settings next) some f = record {
     heads-long = refl;
     words-long = refl;
     so-far = record {
@@ -108,8 +113,8 @@ module _ (text heads₀ words₀ : List ℕ) where
       let lines = texts changeLine cs in
       let none : drop (s .at) text ≡ [] = drop-of-length-le text (over refl) in
       let all : lines ++ drop (s .at) text ≡ lines = ap (λ (u : List ℕ). lines ++ u) none ∙ append-nil lines in
-      let printed = g .stands ∙ ap (λ (u : List ℕ). rackLine (s .got .n) ++ u) all in
-      (cs, record { n-fits = g .fits; changes-fit = g .fit; printed = printed }, g .number, g .kept)
+      let printed = g .stands ∙ ap (λ (u : List ℕ). firstLine (firstOf s) ++ u) all in
+      (cs, record { n-fits = g .fits .0; settings-fit = g .fits .1; changes-fit = g .fit; printed = printed }, g .number, g .kept)
   by-bad s (suc line) b over = b
 
   pub answers : (s : Stand) → Inv s → (s .got .bad ≡ 0 → length text ≤ s .at) → Checks text (s .heads) (s .words) (answerOf (s .got))
@@ -166,7 +171,7 @@ module _ (text heads₀ words₀ : List ℕ) where
           far = omega (arith, longer (f .0 .1), few, good .far);
           changes = cs ++ (c ∷ []);
           fit = all-snoc LineChange cs c (good .fit) (f .0 .1 .good);
-          stands = trace-more text (s .got .n) cs c (drop (s .at) text) _ (good .stands) (f .0 .1 .stands);
+          stands = trace-more text (firstLine (firstOf s)) cs c (drop (s .at) text) _ (good .stands) (f .0 .1 .stands);
           number = omega (arith, good .number, length-snoc cs c);
           sum = omega (arith, good .sum, total-more cs c, few);
           kept =
@@ -176,7 +181,7 @@ module _ (text heads₀ words₀ : List ℕ) where
         }
     by-line NoLine after (f, same, less) =
         let rest : 0 < length (drop (s .at) text) = omega (arith, length-drop (s .at) text, less) in
-        let bad = bad-change text (s .got .n) (good .changes) (drop (s .at) text) (good .fits) (good .fit) (good .stands) rest (f .0) in
+        let bad = bad-change text (firstOf s) (good .changes) (drop (s .at) text) (good .fits) (good .fit) (good .stands) rest (f .0) in
         known _ (s .got .changes + 2) (λ z. omega (arith, z)) (subst (FirstBad (linesOf text)) (omega (arith, good .number)) bad)
 
     by-less : (line : ChangeRead) (after : List ℕ) → LineRead line after → left (then line after (withLine line (s .got)) []) < suc (length text - s .at)

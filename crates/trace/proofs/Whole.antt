@@ -19,12 +19,12 @@ use Rattle.trace.proofs.Lines.{line-then, rack-line, change-line, lines
 
 -- One line more.
 
-pub trace-more : (s : List ℕ) (n : ℕ) (cs : List Change) (c : Change) (t u : List ℕ) → s ≡ rackLine n ++ (texts changeLine cs ++ t)
-    → t ≡ changeLine c ++ u → s ≡ rackLine n ++ (texts changeLine (cs ++ (c ∷ [])) ++ u)
-trace-more s n cs c t u e h =
+pub trace-more : (s first : List ℕ) (cs : List Change) (c : Change) (t u : List ℕ) → s ≡ first ++ (texts changeLine cs ++ t)
+    → t ≡ changeLine c ++ u → s ≡ first ++ (texts changeLine (cs ++ (c ∷ [])) ++ u)
+trace-more s first cs c t u e h =
     e
-    ∙ ap (λ (v : List ℕ). rackLine n ++ (texts changeLine cs ++ v)) h
-    ∙ ap (λ (v : List ℕ). rackLine n ++ v) (
+    ∙ ap (λ (v : List ℕ). first ++ (texts changeLine cs ++ v)) h
+    ∙ ap (λ (v : List ℕ). first ++ v) (
     sym (append-assoc (texts changeLine cs) (changeLine c) u) ∙ ap (λ (v : List ℕ). v ++ u) (sym (texts-snoc changeLine cs c))
     )
 
@@ -55,9 +55,11 @@ changes-same (x ∷ xs) (y ∷ ys) g h e =
 pub trace-same : (text : List ℕ) (x y : Trace) → Holds text x → Holds text y → x ≡ y
 unfolding traceText
 trace-same text x y g h =
-    let (p, q) = rack-sole .same (record { good = g .n-fits; stands = g .printed }) (record { good = h .n-fits; stands = h .printed }) in
+    let (p, q) = rack-sole .same {x = (x .n, x .settings)} {y = (y .n, y .settings)}
+    (record { good = (g .n-fits, g .settings-fit); stands = g .printed })
+    (record { good = (h .n-fits, h .settings-fit); stands = h .printed }) in
     let r = changes-same (x .changes) (y .changes) (g .changes-fit) (h .changes-fit) q in
-    λ i. record { n = p i; changes = r i }
+    λ i. record { n = p i .0; settings = p i .1; changes = r i }
 
 -- A text fits, or one line is its first that does not.
 
@@ -71,12 +73,12 @@ changes-fit (c ∷ cs) (suc k) g b = changes-fit cs k (g .1) ((rw (line-then (te
 pub trace-fits : (text : List ℕ) (t : Trace) (k : ℕ) → Holds text t → FirstBad (linesOf text) k → ⊥
 unfolding traceText
 trace-fits text t k g b =
-    let lines = ap linesOf (g .printed) ∙ line-then (texts changeLine (t .changes)) (rack-line (t .n)) in
+    let lines = ap linesOf (g .printed) ∙ line-then (texts changeLine (t .changes)) (rack-line (t .n) (t .settings)) in
     go k (subst (λ (ls : List (List ℕ)). FirstBad ls k) lines b)
   where
-    go : (k : ℕ) → FirstBad (rackLine (t .n) ∷ linesOf (texts changeLine (t .changes))) k → ⊥
+    go : (k : ℕ) → FirstBad (rackLine (t .n) (t .settings) ∷ linesOf (texts changeLine (t .changes))) k → ⊥
     go zero h = unfold FirstBad in h
-    go (suc zero) h = unfold FirstBad in h (t .n, g .n-fits, refl)
+    go (suc zero) h = unfold FirstBad in h (t .n, t .settings, g .n-fits, g .settings-fit, refl)
     go (suc (suc k)) h = unfold FirstBad in changes-fit (t .changes) k (g .changes-fit) (h .1)
 
 bad-change-same : (ls : List (List ℕ)) (j k : ℕ) → FirstBadChange ls j → FirstBadChange ls k → j ≡ k

@@ -3,6 +3,7 @@ use mathlib.Core.List.{List, [], _∷_}
 use Prim.Native.Nat.{ℕ, zero, suc, _+_, _*_, _^_, _≤_, _<_}
 use lib.ListN.{length}
 use Rattle.model.specs.Text.{over}
+use Rattle.lines.specs.declared.Settings.the-variants.{Short}
 use Rattle.lines.specs.declared.RackRead.{RackRead}
 use Rattle.lines.specs.declared.RackRead.the-variants.{Rack, NoRack}
 use Rattle.lines.specs.declared.ChangeRead.{ChangeRead}
@@ -13,8 +14,8 @@ use Rattle.trace.specs.declared.Checked.the-variants.{Fits, Bad}
 
 -- what line 1 gives
 abbrev pub withRack : RackRead → Progress
-withRack (Rack n next) = record { n = n; changes = 0; words = 0; bad = 0 }
-withRack NoRack = record { n = 0; changes = 0; words = 0; bad = 1 }
+withRack (Rack n settings next) = record { n = n; settings = settings; changes = 0; words = 0; bad = 0 }
+withRack NoRack = record { n = 0; settings = Short; changes = 0; words = 0; bad = 1 }
 
 -- how many words a line has
 abbrev pub countOf : ChangeRead → ℕ
@@ -27,8 +28,8 @@ CanKeep heads line got = (4 * got .changes + 4 ≤ length heads) × (got .words 
 
 -- one change's line more is kept, or it is the first that doesn't fit: line 1 and the changes stand before it
 abbrev pub withLine : ChangeRead → Progress → Progress
-withLine (Line code a b count next) got = record { n = got .n; changes = got .changes + 1; words = got .words + count; bad = 0 }
-withLine NoLine got = record { n = got .n; changes = got .changes; words = got .words; bad = got .changes + 2 }
+withLine (Line code a b count next) got = record { n = got .n; settings = got .settings; changes = got .changes + 1; words = got .words + count; bad = 0 }
+withLine NoLine got = record { n = got .n; settings = got .settings; changes = got .changes; words = got .words; bad = got .changes + 2 }
 
 -- the heads, with that of the line
 abbrev pub headsWith : ChangeRead → Progress → List ℕ → List ℕ
@@ -37,7 +38,7 @@ headsWith NoLine got heads = heads
 
 -- the answer that it comes to: a number of a line is 1 or more, so 0 says that all lines fit
 abbrev pub answerAt : ℕ → Progress → Checked
-answerAt zero got = Fits (got .n) (got .changes)
+answerAt zero got = Fits (got .n) (got .settings) (got .changes)
 answerAt (suc line) got = Bad (suc line)
 
 abbrev pub answerOf : Progress → Checked

@@ -46,7 +46,9 @@ fn field(at: usize) -> String {
     match at {
         0..=1 => "n".into(),
         2..=3 => "link number".into(),
-        4..=7 => "spare".into(),
+        4 => "growth".into(),
+        5 => "top level".into(),
+        6..=7 => "spare".into(),
         8..=263 => format!("level of {}", at - 8),
         264..=775 => format!("mate of {}", (at - 264) / 2),
         776..=1_799 => format!("count of {} at {}", (at - 776) / 4, at % 4),
@@ -102,6 +104,19 @@ pub fn make(buffer: &[u8], n: u32) -> Result<u32, String> {
     let mut wanted = buffer.to_vec();
     let number = reference::make(&mut wanted, n);
     let what = format!("make of {n} boards in {} bytes", buffer.len());
+    same(&what, core, number)?;
+    same_bytes(&what, &bytes, &wanted)?;
+    Ok(number)
+}
+
+/// The same with settings.
+pub fn make_with(buffer: &[u8], n: u32, growth: u32, top: u32) -> Result<u32, String> {
+    let call = |rack: &mut [u8]| pairing::make_with(rack, n, growth, top).0;
+    let (core, bytes) = guarded(buffer, call)?;
+    let mut wanted = buffer.to_vec();
+    let number = reference::make_with(&mut wanted, n, growth, top);
+    let length = buffer.len();
+    let what = format!("make of {n} boards, growth {growth}, top {top} in {length} bytes");
     same(&what, core, number)?;
     same_bytes(&what, &bytes, &wanted)?;
     Ok(number)

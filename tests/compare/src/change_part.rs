@@ -5,99 +5,15 @@ use crate::both::{self, same, Made, Twin};
 use crate::cases;
 use crate::change_tally::{fitting, Tally};
 use crate::damage::{damaged, Damage, DAMAGES};
-use crate::fans::{fan, FANS};
+use crate::fans::{fan, fans};
+use crate::lifts::{full_hub, lift, lifts};
 use crate::rack_part::wrong_buffers;
 use crate::racks::{self, Kind};
+use crate::starts::{List, Start, LISTS, LISTS_OF_EACH, STARTS};
 use crate::{stars, Verdict};
 use reference::checks::random::Random;
 use reference::checks::shortage::runs_out;
-use reference::Rack;
-
-/// Lists of changes from an empty rack: vertices, lists, changes of each. Few
-/// are large, since the independent program takes milliseconds for those.
-const LISTS: [(usize, u64, usize); 11] = [
-    (1, 2, 100),
-    (2, 10, 300),
-    (3, 20, 400),
-    (4, 40, 400),
-    (6, 60, 500),
-    (8, 60, 500),
-    (13, 20, 600),
-    (25, 8, 800),
-    (70, 2, 1_000),
-    (140, 1, 900),
-    (256, 1, 800),
-];
-
-/// Racks of a kind to start from.
-struct Start {
-    name: &'static str,
-    kind: Kind,
-    racks: u64,
-    changes: usize,
-    /// The least and the most vertices; none for any size, mostly few.
-    sizes: Option<(usize, usize)>,
-    first_seed: u64,
-}
-
-const STARTS: [Start; 7] = [
-    Start {
-        name: "random racks",
-        kind: Kind::Random,
-        racks: 30_000,
-        changes: 4,
-        sizes: None,
-        first_seed: 0x1100_0000,
-    },
-    Start {
-        name: "dense racks",
-        kind: Kind::Dense,
-        racks: 6_000,
-        changes: 4,
-        sizes: None,
-        first_seed: 0x1200_0000,
-    },
-    Start {
-        name: "dense racks of 5 to 12 boards",
-        kind: Kind::Dense,
-        racks: 1_000,
-        changes: 40,
-        sizes: Some((5, 12)),
-        first_seed: 0x1900_0000,
-    },
-    Start {
-        name: "forks of 8 to 40 boards",
-        kind: Kind::Forks,
-        racks: 4_000,
-        changes: 5,
-        sizes: Some((8, 40)),
-        first_seed: 0x1b00_0000,
-    },
-    Start {
-        name: "random racks of 17 to 64 boards",
-        kind: Kind::Random,
-        racks: 2_500,
-        changes: 6,
-        sizes: Some((17, 64)),
-        first_seed: 0x1300_0000,
-    },
-    Start {
-        name: "random racks of 65 to 256 boards",
-        kind: Kind::Random,
-        racks: 350,
-        changes: 6,
-        sizes: Some((65, 256)),
-        first_seed: 0x1400_0000,
-    },
-    Start {
-        name: "dense racks of 65 to 256 boards",
-        kind: Kind::Dense,
-        racks: 150,
-        changes: 6,
-        sizes: Some((65, 256)),
-        first_seed: 0x1500_0000,
-    },
-];
+use reference::{Rack, Settings};
 
 /// Of a hundred changes that use words, those made again with lists that end near
 /// the last word needed.
@@ -111,6 +27,8 @@ pub fn all() -> Verdict {
     println!("P1 to P11: equal, and as stated");
     let mut whole = Tally::new();
     whole.add("from empty racks", &from_empty()?);
+    let part = from_empty_of_each()?;
+    whole.add("from empty racks of all settings", &part);
     for start in &STARTS {
         let part = from_racks(start)?;
         let told = |why| format!("{}: {why}", start.name);
@@ -119,6 +37,9 @@ pub fn all() -> Verdict {
         whole.add(&format!("from {}", start.name), &part);
     }
     whole.add("from fans", &from_fans()?);
+    whole.add("from lifts of all settings", &from_lifts()?);
+    whole.add("from stars of all settings", &from_stars()?);
+    whole.add("from full hubs of all settings", &from_hubs()?);
     stars::all()?;
     for (name, damage) in DAMAGES {
         let part = on_damaged(name, damage)?;
@@ -146,6 +67,7 @@ fn step(twin: &mut Twin, asked: &Asked, tally: &mut Tally) -> Result<Made, Strin
     same("the first number that fits", made.answer.number, number)?;
     tally.note_on(&before, asked, &fit, &made, &twin.rack);
     if number == 0 {
+        tally.by_settings.note_counts(&twin.bytes);
         tally.rosters.ask_on(&twin.bytes, &twin.rack)?;
     }
     Ok(made)
@@ -175,19 +97,41 @@ fn walk(
 
 fn from_empty() -> Result<Tally, String> {
     let mut tally = Tally::new();
-    for (n, lists, changes) in LISTS {
-        for list in 0..lists {
-            let seed = 0x1000_0000 + 1_000 * n as u64 + list;
-            let told = |why| format!("empty rack of {n} boards, seed {seed:#x}, {why}");
-            let mut random = Random::new(seed);
-            let mut twin = Twin::start(Rack::empty(n));
-            // The rack grows for the first two thirds of the list.
-            let grown = 2 * changes / 3;
-            walk(&mut random, &mut twin, grown, 80, &mut tally).map_err(told)?;
-            walk(&mut random, &mut twin, changes - grown, 35, &mut tally).map_err(told)?;
+    for list in LISTS {
+        lists(Settings::SHORT, list, 0x1000_0000, &mut tally)?;
+    }
+    Ok(tally)
+}
+
+fn from_empty_of_each() -> Result<Tally, String> {
+    let mut tally = Tally::new();
+    for (place, settings) in (0..).zip(Settings::all()) {
+        for list in LISTS_OF_EACH {
+            let first_seed = 0x1c00_0000 + 0x10_0000 * place;
+            let told = |why| format!("{settings:?}, {why}");
+            lists(settings, list, first_seed, &mut tally).map_err(told)?;
         }
     }
     Ok(tally)
+}
+
+fn lists(
+    settings: Settings,
+    (n, lists, changes): List,
+    first_seed: u64,
+    tally: &mut Tally,
+) -> Verdict {
+    for list in 0..lists {
+        let seed = first_seed + 1_000 * n as u64 + list;
+        let told = |why| format!("empty rack of {n} boards, seed {seed:#x}, {why}");
+        let mut random = Random::new(seed);
+        let mut twin = Twin::start(Rack::empty_with(settings, n));
+        // The rack grows for the first two thirds of the list.
+        let grown = 2 * changes / 3;
+        walk(&mut random, &mut twin, grown, 80, tally).map_err(told)?;
+        walk(&mut random, &mut twin, changes - grown, 35, tally).map_err(told)?;
+    }
+    Ok(())
 }
 
 fn from_racks(start: &Start) -> Result<Tally, String> {
@@ -198,8 +142,13 @@ fn from_racks(start: &Start) -> Result<Tally, String> {
             None => racks::size(&mut random),
             Some((least, most)) => random.between(least, most),
         };
-        let told = |why| format!("{}, seed {seed:#x}, {n} boards, {why}", start.name);
-        let mut twin = Twin::start(racks::rack(&mut random, n, start.kind));
+        let settings = random.settings();
+        let told = |why| {
+            let name = start.name;
+            format!("{name}, seed {seed:#x}, {n} boards, {settings:?}, {why}")
+        };
+        let rack = racks::rack_with(&mut random, settings, n, start.kind);
+        let mut twin = Twin::start(rack);
         walk(&mut random, &mut twin, start.changes, 40, &mut tally).map_err(told)?;
     }
     Ok(tally)
@@ -208,21 +157,73 @@ fn from_racks(start: &Start) -> Result<Tally, String> {
 /// Fans of all sizes: the drop that opens them, and random changes after it.
 fn from_fans() -> Result<Tally, String> {
     let mut tally = Tally::new();
-    for (level, most) in FANS {
-        for ribs in 1..=most {
-            let seed = 0x1800_0000 + 100 * u64::from(level) + ribs as u64;
-            let told = |why| format!("fan {level} {ribs}, seed {seed:#x}, {why}");
-            let mut random = Random::new(seed);
-            let (rack, opening) = fan(&mut random, level, ribs);
-            let mut twin = Twin::start(rack);
-            let opened = step(&mut twin, &opening, &mut tally).map_err(told)?;
-            same("number of the opening", opened.answer.number, 0).map_err(told)?;
-            walk(&mut random, &mut twin, 5, 40, &mut tally).map_err(told)?;
-        }
+    for one in fans() {
+        let (settings, level, ribs) = one;
+        let seed = 0x1800_0000 + 100 * level as u64 + ribs as u64;
+        let told = |why| format!("fan {level} {ribs}, {settings:?}, seed {seed:#x}, {why}");
+        let mut random = Random::new(seed);
+        let (rack, opening) = fan(&mut random, one);
+        opened(&mut random, Twin::start(rack), &opening, 5, &mut tally).map_err(told)?;
     }
     // Those of the largest fan, all of whose ribs rise.
     let most = (tally.most_new_pairs, tally.most_falls);
     same("most new pairs and falls of a fan", most, (48, 296))?;
+    Ok(tally)
+}
+
+/// A change that is made, and so many random ones after it.
+fn opened(
+    random: &mut Random,
+    mut twin: Twin,
+    opening: &Asked,
+    changes: usize,
+    tally: &mut Tally,
+) -> Verdict {
+    let made = step(&mut twin, opening, tally)?;
+    same("number of the opening", made.answer.number, 0)?;
+    walk(random, &mut twin, changes, 40, tally)
+}
+
+/// Lifts with just enough neighbours, and with one fewer, by which nobody rises.
+fn from_lifts() -> Result<Tally, String> {
+    let mut tally = Tally::new();
+    for (place, one) in (0..).zip(lifts()) {
+        let (settings, from, to) = one;
+        let told = |why| format!("lift from {from} to {to}, {settings:?}, {why}");
+        let mut random = Random::new(0x1d00_0000 + place);
+        for fewer in [1, 0] {
+            let (twin, asked) = lift(one, fewer);
+            opened(&mut random, twin, &asked, 2, &mut tally).map_err(told)?;
+        }
+    }
+    Ok(tally)
+}
+
+/// Stars of every level with just enough neighbours for each lower one, and with one
+/// fewer.
+fn from_stars() -> Result<Tally, String> {
+    let mut tally = Tally::new();
+    for (place, one) in (0..).zip(stars::landings()) {
+        let (settings, level, k) = one;
+        let told = |why| format!("star of {k} at {level}, {settings:?}, {why}");
+        let mut random = Random::new(0x1e00_0000 + place);
+        let (twin, mut asked) = stars::star(one);
+        asked.words = vec![random.below(k + 1) as u32];
+        opened(&mut random, twin, &asked, 2, &mut tally).map_err(told)?;
+    }
+    Ok(tally)
+}
+
+fn from_hubs() -> Result<Tally, String> {
+    let mut tally = Tally::new();
+    for settings in Settings::all() {
+        let (mut twin, changes) = full_hub(settings);
+        for asked in &changes {
+            let told = |why| format!("full hub, {settings:?}, {why}");
+            let number = step(&mut twin, asked, &mut tally).map_err(told)?;
+            same("number", number.answer.number, 0).map_err(told)?;
+        }
+    }
     Ok(tally)
 }
 
@@ -233,7 +234,8 @@ fn on_damaged(name: &str, damage: Damage) -> Result<Tally, String> {
         let mut random = Random::new(seed);
         let n = racks::size(&mut random);
         let kind = random.pick(&[Kind::Reached, Kind::Random, Kind::Dense]);
-        let rack = racks::rack(&mut random, n, kind);
+        let settings = random.settings();
+        let rack = racks::rack_with(&mut random, settings, n, kind);
         let asked = Asked::any(&mut random, &rack, 45);
         let bytes = damaged(&mut random, &rack, damage);
         let told = |why| format!("damage to {name}, seed {seed:#x}, {n} boards: {why}");
@@ -251,7 +253,9 @@ fn all_sorts() -> Result<Tally, String> {
     let sound = racks::rack(&mut random, 6, Kind::Random).to_bytes();
     let mut damaged = sound.clone();
     damaged[7] ^= 1;
-    let mut buffers = vec![sound, Rack::empty(6).to_bytes(), damaged];
+    let settings = Settings { growth: 2, top: 1 };
+    let other = racks::rack_with(&mut random, settings, 6, Kind::Random).to_bytes();
+    let mut buffers = vec![sound, other, Rack::empty(6).to_bytes(), damaged];
     buffers.extend(wrong_buffers());
     let mut tally = Tally::new();
     for buffer in &buffers {

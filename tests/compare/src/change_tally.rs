@@ -4,6 +4,7 @@
 use crate::asked::Asked;
 use crate::both::Made;
 use crate::rosters::Rosters;
+use crate::settings_tally::BySettings;
 use crate::tally::Seen;
 use crate::word_tally::Words;
 use crate::Verdict;
@@ -32,6 +33,8 @@ pub struct Tally {
     /// Vertices that an accepted change put into another roster, by their levels
     /// before and after it.
     moved: Seen<(i32, i32)>,
+    /// The accepted changes by settings, and the vertices that they moved.
+    pub by_settings: BySettings,
     /// The rosters asked for on the racks before and after changes, on damaged ones
     /// and on buffers of a wrong length.
     pub rosters: Rosters,
@@ -51,6 +54,7 @@ impl Tally {
             most_falls: 0,
             words: Words::new(),
             moved: Seen::of("levels", (-1..=3).flat_map(to_others)),
+            by_settings: BySettings::new(),
             rosters: Rosters::of(&[0, 1, 6], 16),
         }
     }
@@ -91,6 +95,7 @@ impl Tally {
             for (&from, &to) in levels.filter(|(from, to)| from != to) {
                 self.moved.note((from, to));
             }
+            self.by_settings.note(before, after);
         }
     }
 
@@ -107,6 +112,7 @@ impl Tally {
         self.most_falls = self.most_falls.max(part.most_falls);
         self.words.add(&part.words);
         self.moved.add(&part.moved);
+        self.by_settings.add(&part.by_settings);
         self.rosters.add(&part.rosters);
     }
 
@@ -150,12 +156,14 @@ impl Tally {
             self.moved.sum(),
             self.moved
         );
+        self.by_settings.print();
         self.numbers.all_came()?;
         self.at_once.all_came()?;
         self.codes.all_came()?;
         self.decided.all_came()?;
         self.tops.all_came()?;
         self.moved.all_came()?;
+        self.by_settings.all_came()?;
         self.words.all_came()?;
         self.rosters.all_came()
     }

@@ -13,6 +13,9 @@ use roster_damage::Kind;
 #[derive(Clone, Copy, Debug, PartialEq, Eq)]
 pub enum Damage {
     Header,
+    Growth,
+    Top,
+    Settings,
     Spare,
     Ranks,
     Mates,
@@ -25,8 +28,11 @@ pub enum Damage {
     Rosters(Kind),
 }
 
-pub const DAMAGES: [(&str, Damage); 17] = [
+pub const DAMAGES: [(&str, Damage); 20] = [
     ("header", Damage::Header),
+    ("growth", Damage::Growth),
+    ("top level", Damage::Top),
+    ("settings with right counts", Damage::Settings),
     ("spare bytes", Damage::Spare),
     ("levels", Damage::Ranks),
     ("mates", Damage::Mates),
@@ -64,6 +70,9 @@ pub fn damaged(random: &mut Random, rack: &Rack, damage: Damage) -> Vec<u8> {
         }
         return rack.to_bytes();
     }
+    if damage == Damage::Settings {
+        return other_settings(random, rack.clone()).to_bytes();
+    }
     let mut bytes = rack.to_bytes();
     match damage {
         Damage::Sly if random.percent(15) => high_ranks(random, &mut bytes, rack),
@@ -84,7 +93,9 @@ fn field(random: &mut Random, n: usize, damage: Damage) -> usize {
     let v = random.below(n);
     match damage {
         Damage::Header => random.below(4),
-        Damage::Spare => 4 + random.below(4),
+        Damage::Growth => 4,
+        Damage::Top => 5,
+        Damage::Spare => 6 + random.below(2),
         Damage::Ranks => 8 + v,
         Damage::Mates => 264 + 2 * v + random.below(2),
         Damage::Counts => 776 + 4 * v + random.below(4),
@@ -96,7 +107,7 @@ fn field(random: &mut Random, n: usize, damage: Damage) -> usize {
 /// A byte past the n entries of a field; of the spare bytes if n is 256.
 fn past(random: &mut Random, n: usize) -> usize {
     if n == 256 {
-        return 4 + random.below(4);
+        return 6 + random.below(2);
     }
     let v = if random.percent(30) {
         n
@@ -122,6 +133,17 @@ fn damage_byte(random: &mut Random, byte: &mut u8) {
         3 => random.bits() as u8,
         _ => *byte ^ (1 << random.below(8)),
     };
+}
+
+/// Other settings, by which a level may be above the top or a count reach its
+/// threshold; the counts are those of the new top level.
+fn other_settings(random: &mut Random, mut rack: Rack) -> Rack {
+    if random.percent(50) {
+        rack.settings.growth = random.between(2, 8);
+    } else {
+        rack.settings.top = random.below(4) as i32;
+    }
+    rack
 }
 
 /// Damage after which the edge number, the counts and the rosters are still
@@ -175,8 +197,8 @@ fn owners_by_level(rack: &mut Rack) {
 }
 
 /// One more bit in a row, with an edge number, and at times counts, that go
-/// with it: a second owner, a vertex's own bit, a vertex past n, or an edge
-/// that may be one too many.
+/// with it up to the top level: a second owner, a vertex's own bit, a vertex past n,
+/// or an edge that may be one too many.
 fn sly(random: &mut Random, bytes: &mut [u8], rack: &Rack) {
     let v = random.below(rack.n);
     let neighbours = rack.neighbours_below(v, 4);
@@ -199,7 +221,7 @@ fn sly(random: &mut Random, bytes: &mut [u8], rack: &Rack) {
         _ => vec![v, w],
     };
     for end in ends {
-        for j in usize::from(above)..4 {
+        for j in usize::from(above)..=rack.settings.top as usize {
             let count = &mut bytes[776 + 4 * end + j];
             *count = count.wrapping_add(1);
         }

@@ -9,31 +9,62 @@
 //! mate fall to level -1.
 
 use crate::asked::Asked;
-use reference::checks::makers::drawn;
+use reference::checks::makers::drawn_with;
 use reference::checks::random::Random;
-use reference::Rack;
+use reference::{Rack, Settings};
 
-/// The levels, and the most ribs of a fan at each.
-pub const FANS: [(u32, usize); 3] = [(1, 3), (2, 14), (3, 48)];
+/// A fan: its settings, level and ribs.
+pub type Fan = (Settings, i32, usize);
 
-/// The fan for a level with so many ribs, and the drop that opens it.
-pub fn fan(random: &mut Random, level: u32, ribs: usize) -> (Rack, Asked) {
-    let core = 4_usize.pow(level) - 4;
-    let low = level as i32 - 1;
+/// The levels, and the most ribs of a fan of the short form at each.
+const SHORT: [(i32, usize); 3] = [(1, 3), (2, 14), (3, 48)];
+
+/// All fans of the short form, and those of all settings with one rib and with the
+/// most.
+pub fn fans() -> Vec<Fan> {
+    let of_level = |(level, most)| (1..=most).map(move |ribs| (Settings::SHORT, level, ribs));
+    let mut all: Vec<Fan> = SHORT.into_iter().flat_map(of_level).collect();
+    for settings in Settings::all() {
+        for level in 1..=settings.top {
+            let most = most_ribs(settings, level);
+            let few = [1, most].into_iter().take(most.min(2));
+            all.extend(few.map(|ribs| (settings, level, ribs)));
+        }
+    }
+    all
+}
+
+/// The most ribs: one of the core counts them and its mate. None if a rib with its own
+/// three vertices and 0 would have too many neighbours, or has no room.
+fn most_ribs(settings: Settings, level: i32) -> usize {
+    let threshold = settings.threshold(level);
+    match threshold.checked_sub(4) {
+        Some(core) => (254_usize.saturating_sub(core + core % 2) / 4).min(threshold - 2),
+        None => 0,
+    }
+}
+
+/// A fan, and the drop that opens it. If its core is odd, the last vertex of it has a
+/// mate beside the core.
+pub fn fan(random: &mut Random, (settings, level, ribs): Fan) -> (Rack, Asked) {
+    let core = settings.threshold(level) - 4;
+    let low = level - 1;
     let mut pairs = vec![(0, 1, low + 1)];
     let mut edges = vec![(0, 1)];
     for c in (2..2 + core).step_by(2) {
         pairs.push((c, c + 1, low));
         edges.push((c, c + 1));
     }
-    let n = 2 + core + 4 * ribs;
-    for rib in (2 + core..n).step_by(4) {
+    let first = 2 + core + core % 2;
+    let n = first + 4 * ribs;
+    for rib in (first..n).step_by(4) {
         pairs.extend([(rib, rib + 1, low), (rib + 2, rib + 3, low)]);
         edges.extend([(0, rib), (rib + 2, rib + 3)]);
         edges.extend((1..4).map(|own| (rib, rib + own)));
         edges.extend((2..2 + core).map(|c| (c, rib)));
     }
-    (drawn(n, &pairs, &edges), opening(random, n, core))
+    let rack = drawn_with(settings, n, &pairs, &edges);
+    (rack, opening(random, n, core))
 }
 
 /// Words by which most ribs draw the second of their own vertices: it stands

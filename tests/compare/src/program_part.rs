@@ -24,7 +24,7 @@ const LONG: [usize; 8] = [
 type Pieces = Option<usize>;
 
 pub fn all(path: &str) -> Verdict {
-    let mut numbers = Seen::of("number", [0, 2, 4, 5]);
+    let mut numbers = Seen::of("number", [0, 2, 4, 5, 13]);
     for (name, input, pieces) in inputs() {
         let wanted = program(&input);
         numbers.note(number(&wanted));
@@ -39,8 +39,11 @@ pub fn all(path: &str) -> Verdict {
 
 /// The number that is printed, 0 with a record.
 fn number(printed: &[u8]) -> u32 {
-    let after = printed.strip_prefix(b"(bad ");
-    after.map_or(0, |after| u32::from(after[0] - b'0'))
+    let Some(after) = printed.strip_prefix(b"(bad ") else {
+        return 0;
+    };
+    let digits = after.iter().take_while(|byte| byte.is_ascii_digit());
+    digits.fold(0, |number, digit| 10 * number + u32::from(digit - b'0'))
 }
 
 /// The texts with their names.

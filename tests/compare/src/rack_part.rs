@@ -1,15 +1,14 @@
 //! Making, the audit and the queries.
 
-use crate::both;
 use crate::cases;
 use crate::damage::{damaged, Damage, DAMAGES};
+use crate::lifts::hub;
 use crate::rack_tally::Tally;
 use crate::racks::{self, Kind};
-use crate::roster_bits;
-use crate::tally::Seen;
 use crate::Verdict;
+use crate::{makings, roster_bits, setting_bytes};
 use reference::checks::random::Random;
-use reference::{Rack, RACK_BYTES};
+use reference::{Rack, Settings, RACK_BYTES};
 use std::ops::Range;
 
 /// Buffers that are no rack: none, one byte, the length before the rosters and
@@ -21,9 +20,9 @@ const WRONG_LENGTHS: [usize; 14] = [
 /// Racks tried of each kind: name, kind, racks, seed of the first. Few are
 /// large, since the independent program takes milliseconds for those.
 const SOUND: [(&str, Kind, u64, u64); 3] = [
-    ("reached by changes", Kind::Reached, 10_000, 0x1000_0000),
-    ("sound at random", Kind::Random, 15_000, 0x2000_0000),
-    ("dense", Kind::Dense, 6_000, 0x3000_0000),
+    ("reached by changes", Kind::Reached, 14_000, 0x1000_0000),
+    ("sound at random", Kind::Random, 20_000, 0x2000_0000),
+    ("dense", Kind::Dense, 8_000, 0x3000_0000),
 ];
 
 /// Damaged racks tried of each kind of damage, those to rosters being fewer, since
@@ -36,7 +35,7 @@ const FIRST_DAMAGED: u64 = 0x4000_0000;
 const LARGE: (u64, u64) = (600, 0x5000_0000);
 
 pub fn all() -> Verdict {
-    making()?;
+    makings::all()?;
     cases::queries()?;
     println!("P11 and the levels, mates, links and rosters after P1 to P10: equal");
     let mut whole = Tally::new();
@@ -55,6 +54,7 @@ pub fn all() -> Verdict {
     }
     whole.add("large racks, sound and damaged", &large(LARGE)?);
     whole.add("every bit of a rack of 9 boards turned", &every_bit()?);
+    whole.add("large hubs of all settings", &hubs()?);
     for (name, part) in [
         ("bytes without meaning", no_meaning()?),
         ("wrong lengths", wrong_lengths()?),
@@ -62,6 +62,7 @@ pub fn all() -> Verdict {
         part.audits.only_came(&[false])?;
         whole.add(name, &part);
     }
+    setting_bytes::all(&mut whole)?;
     roster_bits::all()?;
     whole.all_came()
 }
@@ -72,26 +73,12 @@ pub fn noise(length: usize, seed: u64) -> Vec<u8> {
     (0..length).map(|_| random.bits() as u8).collect()
 }
 
-fn making() -> Verdict {
-    let mut numbers = Seen::of("number", [0, 1, 5]);
-    let beyond = [1 << 9, 65_535, 65_536, 65_537, 1 << 31, u32::MAX];
-    for n in (0..=300).chain(beyond) {
-        numbers.note(both::make(&noise(RACK_BYTES, u64::from(n)), n)?);
-    }
-    for buffer in wrong_buffers() {
-        for n in [0, 1, 5, 256, 257] {
-            numbers.note(both::make(&buffer, n)?);
-        }
-    }
-    println!("making: {numbers}: equal");
-    numbers.all_came()
-}
-
-/// A rack of any kind and its number of vertices.
+/// A rack of any kind and any settings, and its number of vertices.
 fn any_rack(random: &mut Random, size: fn(&mut Random) -> usize) -> (Rack, usize) {
     let n = size(random);
     let kind = random.pick(&[Kind::Reached, Kind::Random, Kind::Random, Kind::Dense]);
-    (racks::rack(random, n, kind), n)
+    let settings = random.settings();
+    (racks::rack_with(random, settings, n, kind), n)
 }
 
 /// Sound racks of a kind.
@@ -100,7 +87,8 @@ fn sound(kind: Kind, seeds: Range<u64>) -> Result<Tally, String> {
     for seed in seeds {
         let mut random = Random::new(seed);
         let n = racks::size(&mut random);
-        let rack = racks::rack(&mut random, n, kind).to_bytes();
+        let settings = random.settings();
+        let rack = racks::rack_with(&mut random, settings, n, kind).to_bytes();
         let asked = tally.ask(&mut random, &rack, n);
         asked.map_err(|why| format!("seed {seed:#x}: {why}"))?;
     }
@@ -131,8 +119,9 @@ fn large((number, first): (u64, u64)) -> Result<Tally, String> {
         let mut random = Random::new(seed);
         let n = random.between(65, 256);
         let kind = random.pick(&[Kind::Random, Kind::Dense]);
-        let rack = racks::rack(&mut random, n, kind);
-        let told = |why| format!("seed {seed:#x}, {n} boards: {why}");
+        let settings = random.settings();
+        let rack = racks::rack_with(&mut random, settings, n, kind);
+        let told = |why| format!("seed {seed:#x}, {n} boards, {settings:?}: {why}");
         tally.ask(&mut random, &rack.to_bytes(), n).map_err(told)?;
         let (_, damage) = random.pick(&DAMAGES);
         let rack = damaged(&mut random, &rack, damage);
@@ -153,6 +142,26 @@ fn every_bit() -> Result<Tally, String> {
         let told = |why| format!("bit {bit} of a rack turned: {why}");
         tally.look(&bytes).map_err(told)?;
         bytes[bit / 8] ^= 1 << (bit % 8);
+    }
+    Ok(tally)
+}
+
+/// Hubs with many neighbours, which all count at the levels above; as they are, and
+/// with each count of the hub one too many.
+fn hubs() -> Result<Tally, String> {
+    let mut random = Random::new(0x6100_0000);
+    let mut tally = Tally::new();
+    for settings in Settings::all() {
+        for k in [127, 128, 255] {
+            let told = |why| format!("hub of {k}, {settings:?}: {why}");
+            let mut bytes = hub(settings, k).to_bytes();
+            tally.ask(&mut random, &bytes, 256).map_err(told)?;
+            for at in 776..780 {
+                bytes[at] = bytes[at].wrapping_add(1);
+                tally.look(&bytes).map_err(told)?;
+                bytes[at] = bytes[at].wrapping_sub(1);
+            }
+        }
     }
     Ok(tally)
 }

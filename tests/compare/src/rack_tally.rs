@@ -5,12 +5,14 @@ use crate::rosters::Rosters;
 use crate::tally::Seen;
 use crate::Verdict;
 use reference::checks::random::Random;
-use reference::IDLE;
+use reference::{Settings, IDLE};
 
 /// What was asked, and what came.
 pub struct Tally {
     audited: Seen<u32>,
     pub audits: Seen<bool>,
+    /// The growth and the top level of sound racks.
+    settings: Seen<(usize, i32)>,
     level_numbers: Seen<u32>,
     levels: Seen<i32>,
     mate_numbers: Seen<u32>,
@@ -26,6 +28,7 @@ impl Tally {
         Tally {
             audited: Seen::of("number", [0, 1]),
             audits: Seen::of("audit", [true, false]),
+            settings: Seen::of("settings", Settings::all().map(|one| (one.growth, one.top))),
             level_numbers: Seen::of("number", [0, 1, 6, 8]),
             levels: Seen::of("level", -1..=3),
             mate_numbers: Seen::of("number", [0, 1, 6, 8]),
@@ -46,6 +49,7 @@ impl Tally {
         println!("{what}: {audits}; links by {link_numbers}: equal");
         self.audited.add(&part.audited);
         self.audits.add(&part.audits);
+        self.settings.add(&part.settings);
         self.level_numbers.add(&part.level_numbers);
         self.levels.add(&part.levels);
         self.mate_numbers.add(&part.mate_numbers);
@@ -58,12 +62,14 @@ impl Tally {
     /// Prints the whole; an error if something that can come never did.
     pub fn all_came(&self) -> Verdict {
         println!("audits by {}; {}", self.audited, self.audits);
+        println!("audits yes by {}", self.settings);
         println!("levels by {}; {}", self.level_numbers, self.levels);
         println!("mates by {}; {}", self.mate_numbers, self.mates);
         println!("links by {}; {}", self.link_numbers, self.links);
         let told = |of: &'static str| move |why| format!("{of}: {why}");
         self.audited.all_came().map_err(told("audits"))?;
         self.audits.all_came()?;
+        self.settings.all_came()?;
         self.level_numbers.all_came().map_err(told("levels"))?;
         self.levels.all_came()?;
         self.mate_numbers.all_came().map_err(told("mates"))?;
@@ -73,12 +79,17 @@ impl Tally {
         self.rosters.all_came()
     }
 
-    /// The audit and the queries on levels.
-    pub fn look(&mut self, rack: &[u8]) -> Verdict {
+    /// The audit, which is told, and the queries on levels.
+    pub fn look(&mut self, rack: &[u8]) -> Result<bool, String> {
         let (number, yes) = both::audit(rack)?;
         self.audited.note(number);
         self.audits.note(yes);
-        self.rosters.ask(rack)
+        if yes {
+            self.settings
+                .note((usize::from(rack[4]), i32::from(rack[5])));
+        }
+        self.rosters.ask(rack)?;
+        Ok(yes)
     }
 
     /// The same and some queries on vertices.

@@ -41,8 +41,9 @@ pub fn all() -> Verdict {
         let seed = 0x8000_0000 + n as u64;
         let mut random = Random::new(seed);
         let kind = random.pick(&[Kind::Random, Kind::Random, Kind::Dense]);
-        let rack = racks::rack(&mut random, n, kind);
-        let told = |why| format!("seed {seed:#x}, {n} boards: {why}");
+        let settings = random.settings();
+        let rack = racks::rack_with(&mut random, settings, n, kind);
+        let told = |why| format!("seed {seed:#x}, {n} boards, {settings:?}: {why}");
         let subject = Subject::of(&mut random, rack).map_err(told)?;
         subject.every_bit(&mut tried).map_err(told)?;
         subject.every_move(&mut tried).map_err(told)?;

@@ -40,7 +40,7 @@ fn as_stated(stage: &Stage) -> Verdict {
 
 /// All cases of a family, among which every number that it is for must come.
 fn of_family(stage: &Stage, family: &Family, tally: &mut Tally) -> Verdict {
-    let mut numbers = [0; 6];
+    let mut numbers = [0; 14];
     for place in 0..family.cases {
         let case = (family.make)(place);
         let ran = stage
@@ -51,7 +51,7 @@ fn of_family(stage: &Stage, family: &Family, tally: &mut Tally) -> Verdict {
             .note(&case, &ran)
             .map_err(|why| format!("case {place}: {why}"))?;
     }
-    let told: Vec<String> = (0..6)
+    let told: Vec<String> = (0..numbers.len())
         .filter(|&number| numbers[number] > 0)
         .map(|number| format!("{} with {number}", numbers[number]))
         .collect();

@@ -1,6 +1,7 @@
 //! What the runs came to: the numbers, the lines of the records, the levels
 //! reached, and the words of the texts.
 
+use crate::first_tally::FirstLines;
 use crate::rosters::Rosters;
 use crate::runs::Ran;
 use crate::tally::Seen;
@@ -13,8 +14,9 @@ use std::str::from_utf8;
 
 pub struct Tally {
     numbers: Seen<u32>,
-    /// Texts of no bytes that were run.
+    /// Texts of no bytes that were run, and the first lines of others.
     blank: u64,
+    first_lines: FirstLines,
     /// Runs that meet two numbers at once, the lower first.
     at_once: Seen<(u32, u32)>,
     /// Change lines of records: accepted, and refused by their number.
@@ -48,10 +50,15 @@ pub struct Tally {
 
 impl Default for Tally {
     fn default() -> Tally {
-        let two = |lower| (lower + 1..6).map(move |higher| (lower, higher));
+        let two = |lower| {
+            (lower + 1..6)
+                .chain([13])
+                .map(move |higher| (lower, higher))
+        };
         Tally {
-            numbers: Seen::of("number", 0..6),
+            numbers: Seen::of("number", (0..6).chain([13])),
             blank: 0,
+            first_lines: FirstLines::new(),
             at_once: Seen::of("at once", (1..6).flat_map(two)),
             done: 0,
             refused: Seen::of("number", 8..=12),
@@ -89,7 +96,7 @@ impl Tally {
         for line in record.lines() {
             self.note_line(line);
         }
-        self.note_text(&case.text, record);
+        self.note_text(case, record);
         Ok(())
     }
 
@@ -120,16 +127,19 @@ impl Tally {
         }
     }
 
-    fn note_text(&mut self, text: &[u8], record: &str) {
-        if text.is_empty() {
+    fn note_text(&mut self, case: &Case, record: &str) {
+        if case.text.is_empty() {
             self.blank += 1;
             return;
         }
-        let trace = grammar::read(text).expect("a text that was run");
+        let trace = grammar::read(&case.text).expect("a text that was run");
         let lines = record.lines().skip(1);
         for (step, line) in trace.steps.iter().zip(lines) {
-            self.note_words(trace.boards / 2, step, line);
+            self.note_words(trace.first.boards / 2, step, line);
         }
+        let pairs = record.lines().filter(|line| line.starts_with("(pair"));
+        let levels = pairs.map(|line| figures(line)[2] as i32);
+        self.first_lines.note(&trace.first, case.top, levels);
     }
 
     /// A change line of a text with its line of the record, of a rack with so many
@@ -155,6 +165,7 @@ impl Tally {
         let [draws, falls, pairs] = self.most;
         println!("{} runs in all, by {}", self.numbers.sum(), self.numbers);
         println!("{} of them of a text of no bytes, with 0", self.blank);
+        self.first_lines.print();
         println!("two numbers {}", self.at_once);
         println!("{} changes done; refused by {}", self.done, self.refused);
         println!("runs by {}; pairs at the end by {}", self.tops, self.pairs);
@@ -177,6 +188,7 @@ impl Tally {
     pub fn all_came(&self) -> Verdict {
         self.numbers.all_came()?;
         self.at_once.all_came()?;
+        self.first_lines.all_came()?;
         let of_refused = |why| format!("refused changes: {why}");
         self.refused.all_came().map_err(of_refused)?;
         let of_pairs = |why| format!("pairs at the end: {why}");
@@ -216,21 +228,28 @@ fn digits(figure: u32) -> u32 {
 
 /// The numbers that a run meets, each looked at by itself.
 fn met(case: &Case) -> Vec<u32> {
+    let first = first_line(&case.text);
     let met = [
         case.rack != RACK_BYTES,
         case.text.len() > TEXT_LIMIT,
         case.space < RECORD_SPACE,
         first_bad_line(&case.text).is_some(),
-        boards(&case.text).is_some_and(|n| n == 0 || n > 256),
+        first.is_some_and(|(n, ..)| n == 0 || n > 256),
+        first.is_some_and(|(_, growth, top)| !(2..=8).contains(&growth) || top > 3),
     ];
-    let numbers = (1..).zip(met);
+    let numbers = (1..6).chain([13]).zip(met);
     numbers.filter(|(_, met)| *met).map(|(k, _)| k).collect()
 }
 
-/// The board number that a text's first line names.
-fn boards(text: &[u8]) -> Option<u64> {
+/// The board number, the growth and the top level that a text's first line tells of.
+fn first_line(text: &[u8]) -> Option<(u64, u64, u64)> {
     let line = text.split(|&byte| byte == b'\n').next()?;
     let line = from_utf8(line).ok()?;
-    let number = line.strip_prefix("(rack (boards ")?.strip_suffix("))")?;
-    number.parse().ok()
+    let numbers = line.strip_prefix("(rack (boards ")?.strip_suffix("))")?;
+    let number = |digits: &str| digits.parse().ok();
+    let Some((boards, settings)) = numbers.split_once(") (growth ") else {
+        return Some((number(numbers)?, 4, 3));
+    };
+    let (growth, top) = settings.split_once(") (top ")?;
+    Some((number(boards)?, number(growth)?, number(top)?))
 }

@@ -1,18 +1,19 @@
 //! Draws among every number of neighbours, with words around the one from which on
 //! they are passed over.
 //!
-//! A star is a hub with k neighbours at level -1 and a mate at level 3. When the
-//! hub and its mate are parted, it falls to the highest level whose threshold k
-//! reaches and draws from those k. No change draws from more than 254: a rack has
-//! 256 vertices, and one that draws from more than 64 was parted from a mate, which
-//! is no neighbour any more or has risen above it.
+//! A star is a hub with k neighbours at level -1 and a mate at a level, which is the
+//! highest but where all settings are gone through. When the hub and its mate are
+//! parted, it falls to the highest level whose threshold k reaches and draws from
+//! those k. No drop draws from more than 254: a rack has 256 vertices, and the former
+//! mate of the one that draws is no neighbour any more.
 
 use crate::asked::Asked;
 use crate::both::{same, Made, Twin};
 use crate::tally::Seen;
 use crate::Verdict;
-use reference::checks::makers::drawn;
+use reference::checks::makers::drawn_with;
 use reference::checks::random::Random;
+use reference::Settings;
 
 /// The most neighbours.
 const MOST: usize = 254;
@@ -22,6 +23,29 @@ const ALL: u64 = 1 << 32;
 
 /// Numbers of neighbours, and of words passed over before one that chooses.
 const LONG: [(usize, usize); 4] = [(3, 300), (7, 70_000), (100, 257), (254, 65_536)];
+
+/// A star: its settings, the level of the hub and its mate, and the neighbours.
+pub type Star = (Settings, i32, usize);
+
+/// Stars of every level of all settings, with as many neighbours as the threshold of a
+/// level up to that, with one fewer, and with as many as there may be: the mate counts
+/// too at the next level.
+pub fn landings() -> Vec<Star> {
+    let mut all = Vec::new();
+    for settings in Settings::all() {
+        for level in 0..=settings.top {
+            let most = match level == settings.top {
+                true => MOST,
+                false => MOST.min(settings.threshold(level + 1) - 2),
+            };
+            let thresholds = (0..=level).map(|j| settings.threshold(j));
+            let near = thresholds.flat_map(|k| [k - 1, k]).chain([most]);
+            let room = near.filter(|&k| k <= most);
+            all.extend(room.map(|k| (settings, level, k)));
+        }
+    }
+    all
+}
 
 /// The rows of each number of neighbours.
 struct Stars {
@@ -85,14 +109,13 @@ fn long_row((k, passed): (usize, usize)) -> (usize, Vec<Vec<u32>>) {
     (k, vec![[vec![u32::MAX; passed], vec![7]].concat()])
 }
 
-/// A star with k neighbours, its vertices numbered in any way, and the drop that
-/// opens it.
-fn star(k: usize) -> (Twin, Asked) {
+/// A star, its vertices numbered in any way, and the drop that opens it, without words.
+pub fn star((settings, level, k): Star) -> (Twin, Asked) {
     let mut order: Vec<usize> = (0..k + 2).collect();
     Random::new(0x1a00_0000 + k as u64).shuffle(&mut order);
     let (hub, mate) = (order[0], order[1]);
     let edges: Vec<(usize, usize)> = order[1..].iter().map(|&v| (hub, v)).collect();
-    let rack = drawn(k + 2, &[(hub, mate, 3)], &edges);
+    let rack = drawn_with(settings, k + 2, &[(hub, mate, level)], &edges);
     let opening = Asked {
         code: 2,
         a: hub as u32,
@@ -105,7 +128,7 @@ fn star(k: usize) -> (Twin, Asked) {
 impl Stars {
     /// The opening of a star with each of these lists.
     fn rows(&mut self, k: usize, lists: Vec<Vec<u32>>) -> Verdict {
-        let (star, opening) = star(k);
+        let (star, opening) = star((Settings::SHORT, 3, k));
         for words in lists {
             let asked = Asked { words, ..opening };
             let Made { answer, new_pairs } = star.clone().change(&asked)?;

@@ -41,6 +41,11 @@ impl<K: Copy + Ord + Debug> Seen<K> {
         self.times.values().sum()
     }
 
+    /// How many of them there are.
+    pub fn kinds(&self) -> usize {
+        self.times.len()
+    }
+
     /// How often the rarest of them came.
     pub fn least(&self) -> u64 {
         self.times.values().copied().min().unwrap_or(0)

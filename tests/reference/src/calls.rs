@@ -4,7 +4,7 @@
 use crate::image::{IDLE, PLACES, RACK_BYTES};
 use crate::moves::{self, Done};
 use crate::queues::Order;
-use crate::rack::Rack;
+use crate::rack::{Rack, Settings};
 use crate::sound::sound;
 use crate::words::OutOfWords;
 
@@ -41,16 +41,25 @@ pub fn board_number_fits(n: u32) -> bool {
     1 <= n && n as usize <= PLACES
 }
 
-/// "Making meets 1 and 5"; otherwise the buffer becomes a rack of n boards
-/// without links.
+/// "The short form of making gives 4 and 3" (document 02, W-207).
 pub fn make(rack: &mut [u8], n: u32) -> u32 {
+    make_with(rack, n, 4, 3)
+}
+
+/// "Making meets 1 and 5", and "A setting outside its range is number 13, looked at
+/// just after 5" (document 02, W-207); otherwise the buffer becomes a rack of n
+/// boards without links, which has these settings.
+pub fn make_with(rack: &mut [u8], n: u32, growth: u32, top: u32) -> u32 {
     if rack.len() != RACK_BYTES {
         return 1;
     }
     if !board_number_fits(n) {
         return 5;
     }
-    rack.copy_from_slice(&Rack::empty(n as usize).to_bytes());
+    let Some(settings) = Settings::of(growth, top) else {
+        return 13;
+    };
+    rack.copy_from_slice(&Rack::empty_with(settings, n as usize).to_bytes());
     0
 }
 
@@ -89,7 +98,7 @@ fn two_named(rack: &Rack, v: u32, w: u32) -> Result<(usize, usize), u32> {
     Ok(both)
 }
 
-/// The level of board v, -1 to 3.
+/// The level of board v, -1 to the top level.
 pub fn level(rack: &[u8], v: u32) -> (u32, i32) {
     let found = open(rack).and_then(|rack| Ok(rack.level[named(&rack, v)?]));
     match found {

@@ -15,10 +15,18 @@ pub struct Step {
     pub words: Vec<u32>,
 }
 
-/// A whole trace: the board number asked for and the changes.
+/// Line 1 of a trace: the board number asked for, and the growth and the top level
+/// if it names them.
+#[derive(Clone, Copy, Debug, PartialEq, Eq)]
+pub struct First {
+    pub boards: u32,
+    pub settings: Option<(u32, u32)>,
+}
+
+/// A whole trace: line 1 and the changes.
 #[derive(Clone, Debug, PartialEq, Eq)]
 pub struct Trace {
-    pub boards: u32,
+    pub first: First,
     pub steps: Vec<Step>,
 }
 
@@ -28,24 +36,33 @@ pub struct Trace {
 /// doesn't fit."
 pub fn read(text: &[u8]) -> Result<Trace, usize> {
     let mut text = Reader { rest: text };
-    let boards = text.line().and_then(rack_line).ok_or(1usize)?;
+    let first = text.line().and_then(rack_line).ok_or(1usize)?;
     let mut steps = Vec::new();
     while !text.rest.is_empty() {
         let number = steps.len() + 2;
         let step = text.line().and_then(change_line).ok_or(number)?;
         steps.push(step);
     }
-    Ok(Trace { boards, steps })
+    Ok(Trace { first, steps })
 }
 
-/// "Line 1 is `(rack (boards N))`."
-fn rack_line(line: &[u8]) -> Option<u32> {
+/// "Line 1 is `(rack (boards N))`." And: "Line 1 may read `(rack (boards N) (growth
+/// G) (top T))`" (document 02, W-207).
+fn rack_line(line: &[u8]) -> Option<First> {
     let mut line = Reader { rest: line };
     line.word("(rack (boards ")?;
-    let n = line.number()?;
-    line.word("))")?;
+    let boards = line.number()?;
+    line.word(")")?;
+    let mut settings = None;
+    if line.word(" (growth ").is_some() {
+        let growth = line.number()?;
+        line.word(") (top ")?;
+        settings = Some((growth, line.number()?));
+        line.word(")")?;
+    }
+    line.word(")")?;
     line.end()?;
-    Some(n)
+    Some(First { boards, settings })
 }
 
 /// "Each further line is `(add (A B) (draws W W))` or the same with `drop`,

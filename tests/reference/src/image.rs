@@ -2,7 +2,7 @@
 //! they are 9,992; "The rack gains at offset 9,992 five rosters of 32 bytes, for
 //! levels -1 to 3" (document 02, W-205).
 
-use crate::rack::{Rack, HIGHEST, LOWEST};
+use crate::rack::{Rack, Settings, HIGHEST, LOWEST};
 use crate::sound::sound;
 
 /// The length of a rack buffer: "Its length becomes 10,152" (W-205).
@@ -16,6 +16,8 @@ pub const IDLE: u32 = 65_535;
 
 const BOARDS_AT: usize = 0;
 const LINKS_AT: usize = 2;
+const GROWTH_AT: usize = 4;
+const TOP_AT: usize = 5;
 const LEVELS_AT: usize = 8;
 const MATES_AT: usize = 264;
 const COUNTS_AT: usize = 776;
@@ -42,9 +44,15 @@ pub fn link_number(bytes: &[u8]) -> usize {
     two_bytes(bytes, LINKS_AT) as usize
 }
 
-/// "4 to 7: zero."
+/// "kept in bytes 4 (g) and 5 (t)" (document 02, W-207); none if a setting is
+/// outside its range.
+pub fn settings(bytes: &[u8]) -> Option<Settings> {
+    Settings::of(u32::from(bytes[GROWTH_AT]), u32::from(bytes[TOP_AT]))
+}
+
+/// "6 and 7 stay zero" (W-207).
 pub fn spare(bytes: &[u8]) -> &[u8] {
-    &bytes[4..8]
+    &bytes[6..8]
 }
 
 /// "8: one byte a board, level plus 1."
@@ -97,6 +105,8 @@ impl Rack {
         let mut bytes = vec![0; RACK_BYTES];
         put_two_bytes(&mut bytes, BOARDS_AT, self.n);
         put_two_bytes(&mut bytes, LINKS_AT, self.link_number());
+        bytes[GROWTH_AT] = self.settings.growth as u8;
+        bytes[TOP_AT] = self.settings.top as u8;
         // "Entries of boards n to 255 are level byte 0, mate 65,535, counts 0,
         // empty row, and no row names them."
         for v in 0..PLACES {
@@ -135,7 +145,7 @@ impl Rack {
         if !sound(bytes) {
             return None;
         }
-        let mut rack = Rack::empty(boards(bytes));
+        let mut rack = Rack::empty_with(settings(bytes)?, boards(bytes));
         for v in 0..rack.n {
             rack.level[v] = i32::from(level_byte(bytes, v)) - 1;
             let mate = mate_number(bytes, v);

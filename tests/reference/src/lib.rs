@@ -17,9 +17,9 @@ pub mod sound;
 pub mod trace;
 pub mod words;
 
-pub use calls::{audit, change, change_with_pairs, level, linked, make, mate, Answer};
+pub use calls::{audit, change, change_with_pairs, level, linked, make, make_with, mate, Answer};
 pub use calls::{roster, rosters};
 pub use image::{IDLE, RACK_BYTES};
-pub use rack::Rack;
+pub use rack::{Rack, Settings};
 pub use sound::sound;
 pub use trace::{program, run, Outcome, RECORD_SPACE, TEXT_LIMIT};

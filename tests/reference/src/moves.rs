@@ -1,7 +1,7 @@
 //! The elementary moves, the settling, and what an add and a drop do.
 
 use crate::queues::{Order, Queues};
-use crate::rack::{threshold, Rack, HIGHEST};
+use crate::rack::Rack;
 use crate::words::{OutOfWords, Words};
 
 /// One change in play: a copy of the rack, the words lent, the boards that wait,
@@ -108,10 +108,11 @@ impl Play<'_> {
 
     /// "The search for a rise stops at the first level, from 3 downwards to
     /// one above both ends, that either end's count reaches. None: finished.
-    /// If both reach it, the lower number rises."
+    /// If both reach it, the lower number rises." And: "levels stop at t" (document
+    /// 02, W-207).
     fn search_for_a_rise(&self, a: usize, b: usize) -> Option<(usize, i32)> {
         let above_both = self.rack.level[a].max(self.rack.level[b]) + 1;
-        let mut i = HIGHEST;
+        let mut i = self.rack.settings.top;
         while i >= above_both {
             for end in [a.min(b), a.max(b)] {
                 if self.rack.reaches(end, i) {
@@ -171,12 +172,12 @@ impl Play<'_> {
     }
 
     /// "Taking a waiting v at level i": hand on, then draw if "k is at least
-    /// 4^i", and fall if not.
+    /// 4^i", "with g and t for 4 and 3" (document 02, W-207), and fall if not.
     fn take(&mut self, v: usize) -> Moved {
         let i = self.rack.level[v];
         self.hand_on(v, i);
         let k = self.rack.neighbours_below(v, i).len();
-        if k >= threshold(i) {
+        if k >= self.rack.settings.threshold(i) {
             self.draw(v, i)
         } else {
             self.fall(v, i)
@@ -213,7 +214,7 @@ impl Play<'_> {
     }
 
     /// "each one that is below i with a count at i of at least 4^i loses its
-    /// mate if it has one, rises to i and draws."
+    /// mate if it has one, rises to i and draws." With g for 4 (document 02, W-207).
     fn look_at(&mut self, w: usize, i: i32) -> Moved {
         if self.rack.level[w] < i && self.rack.reaches(w, i) {
             self.lose_mate(w);

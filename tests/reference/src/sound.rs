@@ -1,18 +1,19 @@
 //! "A rack is sound if" - the conditions of document 01 one by one, in its order,
-//! looked at in the bytes themselves. That of document 02 stands after the one on
-//! level bytes.
+//! looked at in the bytes themselves. Those of document 02 stand among them: the
+//! settings after the spare bytes, the rosters after the level bytes.
 
 use crate::image::{
-    boards, counts, in_roster, level_byte, link_number, mate_number, owns, row, spare, IDLE,
-    PLACES, RACK_BYTES,
+    boards, counts, in_roster, level_byte, link_number, mate_number, owns, row, settings, spare,
+    IDLE, PLACES, RACK_BYTES,
 };
-use crate::rack::{threshold, HIGHEST, LOWEST};
+use crate::rack::{Settings, HIGHEST, LOWEST};
 
 /// Whether these bytes are a sound rack. Any bytes may be asked about; a
 /// condition is looked at only when all the ones before it hold.
 pub fn sound(bytes: &[u8]) -> bool {
     bytes.len() == RACK_BYTES
         && spare_bytes_are_zero(bytes)
+        && settings_are_in_range(bytes)
         && entries_past_the_boards_are_empty(bytes)
         && board_number_is_right(bytes)
         && level_bytes_are_right(bytes)
@@ -27,9 +28,19 @@ pub fn sound(bytes: &[u8]) -> bool {
         && counts_are_below_their_thresholds(bytes)
 }
 
-/// "bytes 4 to 7 are zero"
+/// "6 and 7 stay zero" (document 02, W-207)
 fn spare_bytes_are_zero(bytes: &[u8]) -> bool {
     spare(bytes).iter().all(|&byte| byte == 0)
+}
+
+/// "The audit tests both bytes" (W-207).
+fn settings_are_in_range(bytes: &[u8]) -> bool {
+    settings(bytes).is_some()
+}
+
+/// The settings, for the conditions that come after the one on their bytes.
+fn tested_settings(bytes: &[u8]) -> Settings {
+    settings(bytes).expect("looked at before")
 }
 
 /// "the entries of boards n to 255 are as just said": "level byte 0, mate
@@ -50,9 +61,10 @@ fn board_number_is_right(bytes: &[u8]) -> bool {
     1 <= boards(bytes) && boards(bytes) <= PLACES
 }
 
-/// "level bytes are 0 to 4"
+/// "level bytes are 0 to t plus 1" (document 02, W-207)
 fn level_bytes_are_right(bytes: &[u8]) -> bool {
-    (0..boards(bytes)).all(|v| level_byte(bytes, v) <= 4)
+    let top = tested_settings(bytes).top;
+    (0..boards(bytes)).all(|v| level(bytes, v) <= top)
 }
 
 /// "each board below n is in the roster of its level and in none besides, with
@@ -87,11 +99,13 @@ fn link_number_is_right(bytes: &[u8]) -> bool {
 
 /// "the link number and counts are right": the counts, from "the number of
 /// neighbours whose level is below j if j is above v's level, and otherwise 0."
+/// And: "counts above t are 0" (document 02, W-207).
 fn counts_are_right(bytes: &[u8]) -> bool {
+    let top = tested_settings(bytes).top;
     (0..boards(bytes)).all(|v| {
         let levels = neighbour_levels(bytes, v);
         (0..4).all(|j| {
-            let right = if j > level(bytes, v) {
+            let right = if j > level(bytes, v) && j <= top {
                 levels.iter().filter(|&&level| level < j).count()
             } else {
                 0
@@ -126,10 +140,11 @@ fn idle_exactly_at_the_lowest_level(bytes: &[u8]) -> bool {
     (0..boards(bytes)).all(|v| (mate_number(bytes, v) == IDLE) == (level(bytes, v) == -1))
 }
 
-/// "each count at j is below 4^j"
+/// "each count at j is below 4^j", "with g and t for 4 and 3" (document 02, W-207)
 fn counts_are_below_their_thresholds(bytes: &[u8]) -> bool {
-    (0..boards(bytes))
-        .all(|v| (0..4).all(|j| usize::from(counts(bytes, v)[j]) < threshold(j as i32)))
+    let settings = tested_settings(bytes);
+    let below = |v, j| usize::from(counts(bytes, v)[j as usize]) < settings.threshold(j);
+    (0..boards(bytes)).all(|v| (0..=settings.top).all(|j| below(v, j)))
 }
 
 fn level(bytes: &[u8], v: usize) -> i32 {

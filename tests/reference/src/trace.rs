@@ -1,9 +1,9 @@
 //! Running a trace text to a record, and what the program prints.
 
 use crate::calls::{board_number_fits, change_rack, Answer};
-use crate::grammar::{self, Trace};
+use crate::grammar::{self, First, Trace};
 use crate::image::RACK_BYTES;
-use crate::rack::Rack;
+use crate::rack::{Rack, Settings};
 
 /// "2. The trace text is over 16,384 bytes."
 pub const TEXT_LIMIT: usize = 16_384;
@@ -30,8 +30,8 @@ const BLANK: &str = "(end (pairs 0))\n";
 /// bytes "keep their values".
 pub fn run(rack: &mut [u8], text: &[u8], record: &mut [u8]) -> Outcome {
     let lines = match wanted(rack.len(), text, record.len()) {
-        Ok(Some(trace)) => {
-            let (last, lines) = play(&trace);
+        Ok(Some((fresh, trace))) => {
+            let (last, lines) = play(fresh, &trace);
             rack.copy_from_slice(&last.to_bytes());
             lines
         }
@@ -46,9 +46,13 @@ pub fn run(rack: &mut [u8], text: &[u8], record: &mut [u8]) -> Outcome {
     }
 }
 
-/// "a trace 1 to 5", first fit first; otherwise the trace that was read, or none
-/// for a text of no bytes, which "is taken unless 1 or 3 fits".
-fn wanted(rack: usize, text: &[u8], record: usize) -> Result<Option<Trace>, Outcome> {
+/// A trace that was read, with the rack that it sets.
+type Wanted = (Rack, Trace);
+
+/// "a trace 1 to 5", and 13 "just after 5, in a trace too" (document 02, W-207),
+/// first fit first; otherwise the trace that was read, or none for a text of no
+/// bytes, which "is taken unless 1 or 3 fits".
+fn wanted(rack: usize, text: &[u8], record: usize) -> Result<Option<Wanted>, Outcome> {
     if rack != RACK_BYTES {
         return Err(turned_back(1, 0));
     }
@@ -62,10 +66,14 @@ fn wanted(rack: usize, text: &[u8], record: usize) -> Result<Option<Trace>, Outc
         return Ok(None);
     }
     let trace = grammar::read(text).map_err(|line| turned_back(4, line))?;
-    if !board_number_fits(trace.boards) {
+    let First { boards, settings } = trace.first;
+    if !board_number_fits(boards) {
         return Err(turned_back(5, 0));
     }
-    Ok(Some(trace))
+    // "the short line means 4 and 3" (W-207)
+    let (growth, top) = settings.unwrap_or((4, 3));
+    let settings = Settings::of(growth, top).ok_or(turned_back(13, 0))?;
+    Ok(Some((Rack::empty_with(settings, boards as usize), trace)))
 }
 
 fn turned_back(number: u32, line: usize) -> Outcome {
@@ -78,9 +86,8 @@ fn turned_back(number: u32, line: usize) -> Outcome {
 
 /// "The record repeats line 1, has one line for each change, then the pairs by
 /// rising lower board, then the end line".
-fn play(trace: &Trace) -> (Rack, String) {
-    let mut rack = Rack::empty(trace.boards as usize);
-    let mut lines = format!("(rack (boards {}))\n", trace.boards);
+fn play(mut rack: Rack, trace: &Trace) -> (Rack, String) {
+    let mut lines = rack_line(&trace.first);
     for step in &trace.steps {
         let (answer, _) = change_rack(&mut rack, step.code, step.a, step.b, &step.words);
         lines += &change_line(&answer);
@@ -92,6 +99,17 @@ fn play(trace: &Trace) -> (Rack, String) {
     let pairs = rack.pairs().len();
     lines += &format!("(end (pairs {pairs}) (mean {whole} {rest}))\n");
     (rack, lines)
+}
+
+/// Line 1 in the form in which it was given.
+fn rack_line(first: &First) -> String {
+    let n = first.boards;
+    match first.settings {
+        None => format!("(rack (boards {n}))\n"),
+        Some((growth, top)) => {
+            format!("(rack (boards {n}) (growth {growth}) (top {top}))\n")
+        }
+    }
 }
 
 /// "twice the links equals Q times n plus R and R is below n" (document 02,

@@ -7,7 +7,7 @@ use native.Mathlib.Omega.{arith}
 use borrow.Author.Tests.{not-true, not-false}
 use Rattle.model.specs.Counting.{sum}
 use Rattle.model.specs.Shape.{low}
-use Rattle.model.proofs.Shapes.{low-good, low-full}
+use Rattle.model.proofs.Shapes.{low-good}
 use Rattle.layout.specs.Rows.{degreeAt}
 use Rattle.layout.proofs.Said.{said, unsaid, says-no, says-by}
 use Rattle.audit.specs.Parts.{Edges, Rosters}
@@ -57,7 +57,7 @@ returns-5 c =
     let bs = n .before .before .args .rack .now in
     answer low false bs
     (says-no (λ f. unsaid (c .before .all .ensures) (not-true _ (c .if5 .taken))
-    (subst (Rosters low bs) (sym (n .size .ensures)) (facts-rosters low low-good low-full bs f))))
+    (subst (Rosters low bs) (sym (n .size .ensures)) (facts-rosters low low-good bs f))))
 
 -- the rosters are right once they are tested
 rosters : (c : tie.Else5) →
@@ -69,7 +69,7 @@ edges-requires : tie.Need-edges-requires
 edges-requires c κs =
     let two = c .before .before .before .before .before .before in
     let few : two .before .before .size .result ≤ low .most = omega (arith, two .if2 .left) in
-    (two .before .before .before .before .pre, (few, λ v h. omega (arith, low-full, enrolled-rank few (rosters c) v h)))
+    (two .before .before .before .before .pre, (few, enrolled-rank few (rosters c)))
 
 returns-6 : tie.Need-returns-6
 returns-6 c =
@@ -77,7 +77,7 @@ returns-6 c =
     let bs = n .before .before .args .rack .now in
     answer low false bs
     (says-no (λ f. unsaid (c .before .edges .ensures) (not-true _ (c .if6 .taken))
-    (subst (Edges low bs) (sym (n .size .ensures)) (facts-edges low low-good low-full bs f))))
+    (subst (Edges low bs) (sym (n .size .ensures)) (facts-edges low low-good bs f))))
 
 degrees-requires : tie.Need-degrees-requires
 degrees-requires c κs = search needs
@@ -95,7 +95,7 @@ returns-7 c =
     answer low false bs
     (says-no (λ f. c .if7 .taken
     (c .before .before .degrees .ensures ∙ ap (sum (degreeAt low bs)) (n .size .ensures)
-    ∙ facts-degrees low low-good low-full bs f ∙ sym (c .before .edges2 .ensures))))
+    ∙ facts-degrees low low-good bs f ∙ sym (c .before .edges2 .ensures))))
 
 mates-requires : tie.Need-mates-requires
 mates-requires c κs = search needs
@@ -112,7 +112,7 @@ returns-8 c =
     let e = n .size .ensures in
     answer low (c .mates .result) bs
     (says-by
-    (λ m. whole low low-good low-full bs
+    (λ m. whole low low-good bs
     (omega (arith, e, spare .before .before .before .if1 .left))
     (omega (arith, e, spare .before .before .if2 .left))
     (said (spare .before .spare-zero .ensures) (not-false _ (spare .if3 .left)))
@@ -121,7 +121,7 @@ returns-8 c =
     (subst (Edges low bs) e (said (edges .before .edges .ensures) (not-false _ (edges .if6 .left))))
     (sym (total .before .edges2 .ensures) ∙ sym (total .if7 .left) ∙ total .before .before .degrees .ensures ∙ ap (sum (degreeAt low bs)) e)
     (λ v h. m v (omega (arith, e))))
-    (λ f v h. facts-mates low low-good low-full bs f v (omega (arith, e)))
+    (λ f v h. facts-mates low low-good bs f v (omega (arith, e)))
     (c .mates .ensures))
 
 pub sound-spec : {M : Type 1} → statement M

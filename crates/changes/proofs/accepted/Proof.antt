@@ -40,7 +40,7 @@ returns : tie.Need-returns
 returns c =
     let i = c .before .before .before .before in
     let o = i .before in
-    adds-run _ (given (begin o)) (o .before .lower .ensures) (o .upper .ensures) (i .if1 .taken) (c .before .before .add .ensures)
+    adds-run _ (given (begin o)) (o .before .lower .ensures) (o .upper .ensures) _ (i .if1 .taken) (c .before .before .add .ensures)
 
 drop-requires : tie.Need-drop-requires
 drop-requires c κs =
@@ -55,7 +55,7 @@ returns-2 : tie.Need-returns-2
 returns-2 c =
     let i = c .before .before .before .before in
     let o = i .before in
-    drops-run _ (given (begin o)) (o .before .lower .ensures) (o .upper .ensures) (i .if1 .left) (c .before .before .drop .ensures)
+    drops-run _ (given (begin o)) (o .before .lower .ensures) (o .upper .ensures) _ (i .if1 .left) (c .before .before .drop .ensures)
 
 pub accepted-spec : {M : Type 1} → statement M
 accepted-spec =

@@ -4,8 +4,7 @@ use Prim.Native.Nat.{suc, _≤_}
 use native.Mathlib.Omega.{arith}
 use lib.ListN.{length}
 use Rattle.model.specs.Shape.{low}
-use Rattle.model.specs.State.{base}
-use Rattle.model.specs.Bytes.{read}
+use Rattle.model.specs.Bytes.{rulesAt, topAt, read}
 use Rattle.model.specs.Moves.{found}
 use Rattle.model.specs.Change.{riser}
 use Rattle.edges.specs.Steps.{reachedBy}
@@ -46,7 +45,7 @@ added c = record { from = begin c .pre .0; ends = begin c .pre .1; rack = c .add
 reached : (c : tie.After-i) →
     let e = edged (searched c) in
     let a = begin e .args in
-    riser base (a .a) (a .b) (suc (base .top)) (read low (e .add-edge .last .0)) ≡ found (c .i .given .0 .0) (c .i .given .0 .1 .0)
+    riser (rulesAt (e .add-edge .last .0)) (a .a) (a .b) (suc (topAt (e .add-edge .last .0))) (read low (e .add-edge .last .0)) ≡ found (c .i .given .0 .0) (c .i .given .0 .1 .0)
 reached c = sym (searched c .riser .ensures) ∙ ap reachedBy (c .i .given .1)
 
 add-edge-requires : tie.Need-add-edge-requires

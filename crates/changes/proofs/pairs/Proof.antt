@@ -5,8 +5,8 @@ use Prim.Native.Nat.{ℕ, _+_, _*_}
 use native.Mathlib.Omega.{arith}
 use Rattle.model.specs.Counting.{count}
 use Rattle.model.specs.Shape.{low}
-use Rattle.model.specs.State.{base, pairs}
-use Rattle.model.specs.Bytes.{read, rosterAt}
+use Rattle.model.specs.State.{pairs}
+use Rattle.model.specs.Bytes.{rulesAt, read, rosterAt}
 use Rattle.theory.proofs.Matching.{free-pairs}
 use Rattle.moves.proofs.Held.{held-sized, held-size, held-few, held-rostered}
 use Rattle.changes.proofs.Wholes.{sounded-held}
@@ -32,7 +32,7 @@ mated c =
     let ok = c .before .before .before .pre in
     let held = sounded-held bs ok in
     let n : c .before .size .result ≡ read low bs .n = c .before .size .ensures ∙ held-size held in
-    (omega (arith, n, idle bs (c .size2 .ensures) (omega arith) ∙ held-rostered held 0 (omega arith), free-pairs base (read low bs) (ok .valid)), n)
+    (omega (arith, n, idle bs (c .size2 .ensures) (omega arith) ∙ held-rostered held 0 (omega arith), free-pairs (rulesAt bs) (read low bs) (ok .valid)), n)
 
 sub-result : tie.Need-sub-result
 sub-result c = omega (arith, mated c .0)

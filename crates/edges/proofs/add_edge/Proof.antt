@@ -10,12 +10,11 @@ use lib.Dec.{T}
 use lib.ListN.{length}
 use Rattle.model.specs.Shape.{low}
 use Rattle.model.specs.State.{State}
-use Rattle.model.specs.Bytes.{image, read, write}
+use Rattle.model.specs.Bytes.{kindAt, image, read, write}
 use Rattle.model.specs.Change.{addEdge as edgeAdded}
 use Rattle.layout.specs.Setters.{Sized, own as owned}
 use Rattle.moves.proofs.Held.{held-sized, held-rank}
 use Rattle.edges.specs.Steps.{edgeCounted, Countable}
-use Rattle.model.proofs.Shapes.{low-full}
 use Rattle.edges.proofs.Shifted.{Higher, higher-of}
 use Rattle.edges.proofs.Stages.{turned, turned-sized}
 use Rattle.edges.proofs.EdgeSteps.{step-written}
@@ -30,10 +29,9 @@ from d = read low (d .args .rack .now)
 abbrev to : tie.Start → State
 to d = edgeAdded (d .args .a) (d .args .b) (from d)
 
-addable : (d : tie.Start) → Addable low (d .args .a) (d .args .b) (from d)
+addable : (d : tie.Start) → Addable (kindAt low (d .args .rack .now)) (d .args .a) (d .args .b) (from d)
 addable d = record {
   proper = d .pre .0 .proper;
-  full = low-full;
   apart = d .pre .1 .2;
   inside = (d .pre .1 .0, d .pre .1 .1);
   absent = λ h. subst T (d .pre .1 .3) h;

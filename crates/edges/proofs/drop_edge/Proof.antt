@@ -7,12 +7,11 @@ use borrow.Author.Needs.{needs}
 use lib.ListN.{length}
 use Rattle.model.specs.Shape.{low}
 use Rattle.model.specs.State.{State}
-use Rattle.model.specs.Bytes.{image, read}
+use Rattle.model.specs.Bytes.{kindAt, image, read}
 use Rattle.model.proofs.Tests.{true-T}
 use Rattle.layout.specs.Setters.{disown as disowned}
 use Rattle.moves.proofs.Held.{held-sized}
 use Rattle.edges.specs.Steps.{edgeCounted, Countable}
-use Rattle.model.proofs.Shapes.{low-full}
 use Rattle.edges.proofs.Changed.{dropEdge}
 use Rattle.edges.proofs.Shifted.{Higher, higher-of}
 use Rattle.edges.proofs.Stages.{turned, turned-sized}
@@ -28,10 +27,9 @@ from d = read low (d .args .rack .now)
 abbrev to : tie.Start → State
 to d = dropEdge (d .args .a) (d .args .b) (from d)
 
-droppable : (d : tie.Start) → Droppable low (d .args .a) (d .args .b) (from d)
+droppable : (d : tie.Start) → Droppable (kindAt low (d .args .rack .now)) (d .args .a) (d .args .b) (from d)
 droppable d = record {
   proper = d .pre .0 .proper;
-  full = low-full;
   apart = d .pre .1 .2;
   inside = (d .pre .1 .0, d .pre .1 .1);
   there = true-T (d .pre .1 .3);

@@ -3,7 +3,7 @@ use mathlib.Core.Path.{refl, sym, _∙_}
 use native.Mathlib.Omega.{arith}
 use Rattle.model.specs.Shape.{low}
 use Rattle.model.specs.Change.{Change}
-use Rattle.model.proofs.Shapes.{low-good, low-room}
+use Rattle.model.proofs.Shapes.{low-good}
 use Rattle.engine.proofs.Changing.{turned-is, sounded, ran-is}
 use Rattle.changes.specs.Sounded.{Sounded, brought}
 use borrow.Author.Needs.{needs}
@@ -29,7 +29,7 @@ returns c = turned-is low _ (given (begin (c .before))) _ (c .before .rack-numbe
 -- neither 1 nor 6 fits
 good : (c : tie.Else1) → Sounded low (begin (c .before) .args .rack .now)
 good c =
-    sounded low-good low-room _ (λ k. omega (arith, c .before .before .before .before .slice-known .given k))
+    sounded low-good _ (λ k. omega (arith, c .before .before .before .before .slice-known .given k))
     (sym (c .before .rack-number .ensures) ∙ c .if1 .left)
 
 change-requires : tie.Need-change-requires

@@ -1,7 +1,7 @@
 -- `engine::linked` meets its contract. Assumes nothing.
 use mathlib.Core.Path.{_≡_, refl, sym, _∙_}
 use Rattle.model.specs.Shape.{low}
-use Rattle.model.specs.State.{base, edge}
+use Rattle.model.specs.State.{edge}
 use Rattle.model.specs.Bytes.{read}
 use Rattle.model.specs.Calls.{linkedQuery, twoNumber}
 use Rattle.engine.proofs.Numbers.{told, none-told, asked-two, linked-edge}
@@ -10,7 +10,7 @@ use Rattle.engine.proofs.linked.Statement.{statement}
 use Rattle.engine.proofs.linked.Tie as tie
 
 -- no number fits
-good : (c : tie.Else1) → let a = c .before .before .before .args in twoNumber base low (a .rack .now) (a .v) (a .w) ≡ 0
+good : (c : tie.Else1) → let a = c .before .before .before .args in twoNumber low (a .rack .now) (a .v) (a .w) ≡ 0
 good c = sym (c .before .two-number .ensures) ∙ c .if1 .left
 
 -- whether they are linked

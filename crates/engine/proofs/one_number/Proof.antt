@@ -2,7 +2,6 @@
 use mathlib.Core.Path.{_≡_, sym, _∙_}
 use native.Mathlib.Omega.{arith}
 use Rattle.model.specs.Shape.{low}
-use Rattle.model.specs.State.{base}
 use Rattle.model.specs.Calls.{rackNumber}
 use Rattle.engine.proofs.Numbers.{one-back, one-eight, one-zero, rack-good, sized-length}
 use borrow.Author.Needs.{needs}
@@ -10,7 +9,7 @@ use Rattle.engine.proofs.one_number.Statement.{statement}
 use Rattle.engine.proofs.one_number.Tie as tie
 
 -- neither 1 nor 6 fits
-good : (c : tie.Else1) → rackNumber base low (c .before .before .before .args .rack .now) ≡ 0
+good : (c : tie.Else1) → rackNumber low (c .before .before .before .args .rack .now) ≡ 0
 good c = sym (c .before .rack-number .ensures) ∙ c .if1 .left
 
 rack-number-requires : tie.Need-rack-number-requires

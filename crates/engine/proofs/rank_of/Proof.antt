@@ -12,7 +12,7 @@ use mir.Syntax.{w32, w64}
 use mir.Val.{Fits, SFits, toZ, ofZ}
 use mir.ValLaws.{toZ-ofZ}
 use borrow.Author.Needs.{needs}
-use Rattle.model.specs.State.{base}
+use Rattle.model.specs.Shape.{low}
 use Rattle.model.specs.Calls.{atLevel}
 use Rattle.model.proofs.Tests.{true-T, eqb-no}
 use Rattle.engine.proofs.rank_of.Statement.{statement}
@@ -51,18 +51,14 @@ returns c =
     let z = s .args .level in
     λ x l. minus-one z (s .fits .level) (signed z (s .fits .level) (c .before .if1 .taken)) (c .if2 .taken) x
 
-top-requires : tie.Need-top-requires
-top-requires c κs = search needs
-
 add-result : tie.Need-add-result
-unfolding base
-add-result c = record { fits = omega (arith, c .top .ensures) }
+add-result c = search needs
 
 returns-2 : tie.Need-returns-2
 returns-2 c =
-    let s = c .before .before .before in
+    let s = c .before .before in
     let z = s .args .level in
-    λ x l. lower z (signed z (s .fits .level) (c .before .before .if1 .taken)) (c .before .if2 .left) x (c .top .result + 2) (omega (arith, c .top .ensures))
+    λ x l. lower z (signed z (s .fits .level) (c .before .if1 .taken)) (c .if2 .left) x (suc (low .levels)) (omega arith)
 
 -- the level as it is read back
 back : (c : tie.Else1) → toZ w32 (ofZ w32 (c .before .args .level)) ≡ c .before .args .level
@@ -91,4 +87,4 @@ returns-3 c =
 pub rank-of-spec : {M : Type 1} → statement M
 rank-of-spec =
     tie.close
-    (tie.spec returns top-requires add-result returns-2 cast-result add-result-2 returns-3)
+    (tie.spec returns add-result returns-2 cast-result add-result-2 returns-3)

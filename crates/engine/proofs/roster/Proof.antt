@@ -8,7 +8,6 @@ use mir.Syntax.{w32}
 use mir.ValLaws.{toZ-ofZ}
 use borrow.Author.Needs.{needs}
 use Rattle.model.specs.Shape.{low}
-use Rattle.model.specs.State.{base}
 use Rattle.model.specs.Bytes.{rosterAt}
 use Rattle.model.specs.Calls.{rackNumber, atLevel, rosterQuery}
 use Rattle.model.proofs.Counting.{count-bound}
@@ -26,19 +25,12 @@ returns c = let e = c .before .rack-number .ensures in rw (told e (c .if1 .taken
 rank-of-requires : tie.Need-rank-of-requires
 rank-of-requires c κs = search needs
 
-top-requires : tie.Need-top-requires
-top-requires c κs = search needs
-
-add-if2 : tie.Need-add-if2
-unfolding base
-add-if2 c = record { fits = omega (arith, c .top .ensures) }
-
 -- neither number fits
-none : (c : tie.Else1) → rackNumber base low (c .before .before .before .args .rack .now) ≡ 0
+none : (c : tie.Else1) → rackNumber low (c .before .before .before .args .rack .now) ≡ 0
 none c = sym (c .before .rack-number .ensures) ∙ c .if1 .left
 
 -- the rank that was found, for the level as it was given
-found : (c : tie.After-rank-of) → (x : ℕ) → x ≤ suc (base .top) → atLevel (c .before .before .before .before .args .level) x ≡ eqb x (c .rank-of .result)
+found : (c : tie.After-rank-of) → (x : ℕ) → x ≤ low .levels → atLevel (c .before .before .before .before .args .level) x ≡ eqb x (c .rank-of .result)
 found c x l =
     let s = c .before .before .before .before in
     ap (λ (z : ℤ). atLevel z x) (sym (toZ-ofZ w32 (s .args .level) (s .fits .level))) ∙ c .rank-of .ensures x l
@@ -46,50 +38,38 @@ found c x l =
 returns-2 : tie.Need-returns-2
 unfolding rosterQuery
 returns-2 c =
+    let e = c .before .before in
+    let a = e .before .before .before .args in
+    let r = c .before in
+    rw (none-told (e .before .rack-number .ensures) (e .if1 .left), rosterQuery)
+    (record {
+      number = refl;
+      value = level-none low (a .rack .now) (none e) (a .level) (r .rank-of .result) (found r) (omega (arith, c .if2 .taken));
+    })
+
+size-requires : tie.Need-size-requires
+size-requires c κs =
+    let e = c .before .before in
+    let bs = e .before .before .before .args .rack .now in
+    (sized-length low bs (rack-good low bs (none e) .0), omega (arith, c .if2 .left))
+
+cast-t7 : tie.Need-cast-t7
+cast-t7 c =
+    let a = c .before .before .before .before .before .before .args in
+    omega (arith, c .size .ensures, count-bound (rosterAt low (a .rack .now) (c .before .before .rank-of .result)) (low .most))
+
+returns-3 : tie.Need-returns-3
+unfolding rosterQuery
+returns-3 c =
     let e = c .before .before .before in
     let a = e .before .before .before .args in
     let r = c .before .before in
     rw (none-told (e .before .rack-number .ensures) (e .if1 .left), rosterQuery)
     (record {
       number = refl;
-      value = level-none low (a .rack .now) (none e) (a .level) (r .rank-of .result) (found r) (omega (arith, c .before .top .ensures, c .if2 .taken));
-    })
-
-size-requires : tie.Need-size-requires
-unfolding base
-size-requires c κs =
-    let e = c .before .before .before in
-    let bs = e .before .before .before .args .rack .now in
-    (sized-length low bs (rack-good low bs (none e) .0), omega (arith, c .before .top .ensures, c .if2 .left))
-
-cast-t8 : tie.Need-cast-t8
-cast-t8 c =
-    let a = c .before .before .before .before .before .before .before .args in
-    omega (arith, c .size .ensures, count-bound (rosterAt low (a .rack .now) (c .before .before .before .rank-of .result)) (low .most))
-
-returns-3 : tie.Need-returns-3
-unfolding rosterQuery base
-returns-3 c =
-    let e = c .before .before .before .before in
-    let a = e .before .before .before .args in
-    let r = c .before .before .before in
-    rw (none-told (e .before .rack-number .ensures) (e .if1 .left), rosterQuery)
-    (record {
-      number = refl;
       value = c .size .ensures
-          ∙ level-roster low (a .rack .now) (none e) (a .level) (r .rank-of .result) (found r) (omega (arith, c .before .before .top .ensures, c .before .if2 .left));
+          ∙ level-roster low (a .rack .now) (none e) (a .level) (r .rank-of .result) (found r) (omega (arith, c .before .if2 .left));
     })
 
 pub roster-spec : {M : Type 1} → statement M
-roster-spec =
-    tie.close
-    (tie.spec
-    rack-number-requires
-    returns
-    rank-of-requires
-    top-requires
-    add-if2
-    returns-2
-    size-requires
-    cast-t8
-    returns-3)
+roster-spec = tie.close (tie.spec rack-number-requires returns rank-of-requires returns-2 size-requires cast-t7 returns-3)

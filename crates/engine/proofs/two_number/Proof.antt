@@ -2,7 +2,6 @@
 use mathlib.Core.Path.{_≡_, sym, _∙_}
 use native.Mathlib.Omega.{arith}
 use Rattle.model.specs.Shape.{low}
-use Rattle.model.specs.State.{base}
 use Rattle.model.specs.Calls.{oneNumber}
 use Rattle.engine.proofs.Numbers.{two-back, two-eight, two-nine, two-zero, one-good, rack-good, sized-length}
 use borrow.Author.Needs.{needs}
@@ -10,7 +9,7 @@ use Rattle.engine.proofs.two_number.Statement.{statement}
 use Rattle.engine.proofs.two_number.Tie as tie
 
 -- no number fits the first board
-good : (c : tie.Else1) → let a = c .before .before .before .args in oneNumber base low (a .rack .now) (a .v) ≡ 0
+good : (c : tie.Else1) → let a = c .before .before .before .args in oneNumber low (a .rack .now) (a .v) ≡ 0
 good c = sym (c .before .one-number .ensures) ∙ c .if1 .left
 
 -- nor the second

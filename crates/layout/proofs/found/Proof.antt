@@ -4,7 +4,7 @@ use mathlib.Core.List.{List}
 use Prim.Native.Nat.{ℕ, _/_, _%_}
 use lib.ListN.{set}
 use borrow.Author.Needs.{needs}
-use Rattle.model.specs.State.{lowKind}
+use Rattle.model.specs.Shape.{low}
 use Rattle.model.proofs.Shapes.{low-good}
 use Rattle.layout.proofs.Cleared.{founded}
 use Rattle.layout.proofs.found.Statement.{statement}
@@ -34,7 +34,7 @@ same-length c = search needs
 returns : tie.Need-returns
 returns c =
     let n = c .before .before .before .before .before .args .n in
-    ap (λ (l : List ℕ). set (set l 0 (n % 256)) 1 (n / 256)) (c .before .before .blank .ensures) ∙ founded lowKind low-good n
+    ap (λ (l : List ℕ). set (set l 0 (n % 256)) 1 (n / 256)) (c .before .before .blank .ensures) ∙ founded low low-good n
 
 pub found-spec : {M : Type 1} → statement M
 found-spec =

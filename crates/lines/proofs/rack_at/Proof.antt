@@ -1,12 +1,30 @@
--- `lines::rack_at` meets its contract: it reads line 1, a number between two fixed texts, part by part. Assumes nothing.
-use mathlib.Core.Path.{subst}
+-- `lines::rack_at` meets its contract: it reads a fixed text and a number, and then answers as the end does. Assumes nothing.
+use Prim.Native.Nat.{ℕ}
+use mathlib.Core.Path.{refl, sym, subst}
+use mathlib.Core.List.{List, []}
+use lib.ListN.{drop}
+use Rattle.model.specs.Text.{bytes}
 use Rattle.text.specs.Number.{NumberAt}
 use Rattle.text.specs.Literal.{LiteralAt}
-use Rattle.lines.proofs.Pieces.{between, not-before, not-number, not-behind, absent, found}
+use Rattle.lines.proofs.Pieces.{Between, between, between-sole, printed, not-printed, not-before, not-number, not-first, after, absent, found}
 use Rattle.lines.proofs.Laws.{rack-form}
+use Rattle.lines.specs.Contracts.{RackEndAt, RackAt}
+use Rattle.lines.specs.declared.RackRead.{RackRead}
+use Rattle.lines.specs.declared.RackRead.the-variants.{Rack, NoRack}
 use borrow.Author.Needs.{needs}
 use Rattle.lines.proofs.rack_at.Statement.{statement}
 use Rattle.lines.proofs.rack_at.Tie as tie
+
+-- line 1 up to its N
+abbrev Sized : List ℕ → ℕ → ℕ → ℕ → Type 0
+Sized s at n j = Between (bytes "(rack (boards ") [] (drop at s) n (drop j s)
+
+-- after N, the answer is that of the end
+rack-whole : (s : List ℕ) (at j n : ℕ) (r : RackRead) → Sized s at n j → RackEndAt s j n r → RackAt s at r
+rack-whole s at j n (Rack m settings next) size (same, end) =
+    let first : Sized s at m j = subst (λ (k : ℕ). Sized s at k j) (sym same) size in
+    found rack-form (end .within) (record { rest = drop j s; first = first; second = printed end })
+rack-whole s at j n NoRack size no-end = absent rack-form (after between-sole size (not-printed no-end))
 
 slice-aggregate-literal-at : tie.Need-slice-aggregate-literal-at
 slice-aggregate-literal-at c = search needs
@@ -23,7 +41,7 @@ enum-told c = search needs
 returns : tie.Need-returns
 returns c =
     let refused = subst (LiteralAt _ _ _) (c .enum-told .given .1) (c .before .before .literal-at .ensures) in
-    absent rack-form (not-before refused)
+    absent rack-form (not-first (not-before refused))
 
 number-at-requires : tie.Need-number-at-requires
 number-at-requires c κs = search needs
@@ -39,37 +57,20 @@ returns-2 c =
     let p = c .before .before .before in
     let l = subst (LiteralAt _ _ _) (p .before .i .given .1) (p .before .before .before .literal-at .ensures) in
     let refused = subst (NumberAt _ _) (c .enum-told2 .given .1) (c .before .before .number-at .ensures) in
-    absent rack-form (not-number (l .1) refused)
+    absent rack-form (not-first (not-number (l .1) refused))
 
-slice-aggregate-literal-at-2 : tie.Need-slice-aggregate-literal-at-2
-slice-aggregate-literal-at-2 c = search needs
-
-literal-at-requires-2 : tie.Need-literal-at-requires-2
-literal-at-requires-2 c κs = search needs
-
-enum-known-next : tie.Need-enum-known-next
-enum-known-next c = search needs
-
-enum-told-3 : tie.Need-enum-told-3
-enum-told-3 c = search needs
+rack-end-at-requires : tie.Need-rack-end-at-requires
+rack-end-at-requires c κs = search needs
 
 returns-3 : tie.Need-returns-3
 returns-3 c =
-    let q = c .before .before .before .before in
+    let q = c .before in
     let p = q .before .before .before .before in
     let l = subst (LiteralAt _ _ _) (p .before .i .given .1) (p .before .before .before .literal-at .ensures) in
     let n = subst (NumberAt _ _) (q .before .n .given .1) (q .before .before .before .number-at .ensures) in
-    let refused = subst (LiteralAt _ _ _) (c .enum-told3 .given .1) (c .before .before .literal-at2 .ensures) in
-    absent rack-form (not-behind (l .1) (n .1) refused)
-
-returns-4 : tie.Need-returns-4
-returns-4 c =
-    let q = c .before .before .before .before .before in
-    let p = q .before .before .before .before in
-    let l = subst (LiteralAt _ _ _) (p .before .i .given .1) (p .before .before .before .literal-at .ensures) in
-    let n = subst (NumberAt _ _) (q .before .n .given .1) (q .before .before .before .number-at .ensures) in
-    let m = subst (LiteralAt _ _ _) (c .before .next .given .1) (c .before .before .before .literal-at2 .ensures) in
-    found rack-form (m .0) (between (l .1) (n .1) (m .1))
+    let a = p .before .before .before .before .before .before .args in
+    let (size, (end, _)) = q .before .n .given .0 in
+    rack-whole (a .text .now) (a .at) end size (c .rack-end-at .result) (between (l .1) (n .1) refl) (c .rack-end-at .ensures)
 
 pub rack-at-spec : {M : Type 1} → statement M
 rack-at-spec =
@@ -84,9 +85,5 @@ rack-at-spec =
     enum-known-n
     enum-told-2
     returns-2
-    slice-aggregate-literal-at-2
-    literal-at-requires-2
-    enum-known-next
-    enum-told-3
-    returns-3
-    returns-4)
+    rack-end-at-requires
+    returns-3)

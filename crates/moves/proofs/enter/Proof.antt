@@ -2,16 +2,16 @@
 -- nothing.
 use mathlib.Core.Path.{_≡_, ap, _∙_}
 use mathlib.Core.List.{List}
-use Prim.Native.Nat.{ℕ, suc, _+_}
+use Prim.Native.Nat.{ℕ, suc, _+_, _<_}
 use native.Mathlib.Omega.{arith}
 use borrow.Author.Needs.{needs}
 use Rattle.model.specs.Shape.{low}
-use Rattle.model.specs.State.{base, phi}
+use Rattle.model.specs.State.{phi}
 use Rattle.model.specs.Bytes.{image, fieldsOf, read}
 use Rattle.layout.specs.Setters.{setRank}
 use Rattle.moves.specs.Proper.{ranked}
 use Rattle.moves.specs.Counts.{withCounts, recounted, none}
-use Rattle.moves.proofs.Held.{held-sized, held-small}
+use Rattle.moves.proofs.Held.{held-room, held-sized, held-small}
 use Rattle.moves.proofs.RankSteps.{rank-listed, enter-counts, enter-bytes}
 use Rattle.moves.proofs.enter.Statement.{statement}
 use Rattle.moves.proofs.enter.Tie as tie
@@ -19,24 +19,24 @@ use Rattle.moves.proofs.enter.Tie as tie
 lower-counts-requires : tie.Need-lower-counts-requires
 lower-counts-requires c κs = c .before .before .pre
 
+-- the level is one of the shape's
+level : (s : tie.Start) → s .args .i < low .levels
+level s = omega (arith, held-room (s .pre .0), s .pre .1 .0 .2)
+
 add-zero-counts : tie.Need-add-zero-counts
-unfolding base
-add-zero-counts c = omega arith
+add-zero-counts c = omega (arith, level (c .before .before .before .before .before .before))
 
 zero-counts-requires : tie.Need-zero-counts-requires
-unfolding base
 zero-counts-requires c κs =
     let lowered = c .before .before .before in
     let p = lowered .before .before .before .pre in
-    (omega (arith, lowered .lower-counts .kept .0, held-sized (p .0)), (held-small (p .0) _ (p .1 .0 .0), omega arith))
+    (omega (arith, lowered .lower-counts .kept .0, held-sized (p .0)), (held-small (p .0) _ (p .1 .0 .0), omega (arith, level (lowered .before .before .before))))
 
 add-set-rank : tie.Need-add-set-rank
-unfolding base
-add-set-rank c = omega arith
+add-set-rank c = omega (arith, level (c .before .before .before .before .before .before .before .before .before .before))
 
 cast-set-rank : tie.Need-cast-set-rank
-unfolding base
-cast-set-rank c = omega arith
+cast-set-rank c = omega (arith, level (c .before .before .before .before .before .before .before .before .before .before))
 
 -- the counts before the new rank is set
 counted : (c : tie.After-zero-counts) →
@@ -53,7 +53,6 @@ counted c =
     ∙ enter-counts (read low (a .rack .now)) (p .0 .proper) (a .i) (a .u) (p .1 .0 .0) (p .1 .0 .2) (p .1 .1) (p .1 .0 .1)
 
 set-rank-requires : tie.Need-set-rank-requires
-unfolding base
 set-rank-requires c κs =
     let zeroed = c .before .before .before in
     let lowered = zeroed .before .before .before .before in
@@ -63,7 +62,7 @@ set-rank-requires c κs =
       (
         held-small (p .0) _ (p .1 .0 .0),
         rank-listed (read low (s .args .rack .now)) (p .0 .proper) _ (s .args .u) (p .1 .0 .0) (zeroed .zero-counts .last .0) (counted zeroed),
-        omega (arith, p .1 .0 .2),
+        omega (arith, level s),
       ),
     )
 

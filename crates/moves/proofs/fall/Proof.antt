@@ -6,12 +6,12 @@ use Prim.Native.Nat.{ℕ, _<_}
 use native.Mathlib.Omega.{arith}
 use borrow.Author.Needs.{needs}
 use Rattle.model.specs.Shape.{low}
-use Rattle.model.specs.State.{base, phi}
+use Rattle.model.specs.State.{phi}
 use Rattle.model.specs.Bytes.{image, fieldsOf, read}
 use Rattle.layout.specs.Setters.{setPhi, setRank}
 use Rattle.moves.specs.Proper.{ranked}
 use Rattle.moves.specs.Counts.{withCounts}
-use Rattle.moves.proofs.Held.{held-sized, held-small}
+use Rattle.moves.proofs.Held.{held-room, held-sized, held-small}
 use Rattle.moves.proofs.RankSteps.{rank-listed, fall-counts, fall-bytes, fall-fits, fall-says}
 use Rattle.moves.proofs.fall.Statement.{statement}
 use Rattle.moves.proofs.fall.Tie as tie
@@ -30,15 +30,13 @@ cast-set-phi : tie.Need-cast-set-phi
 cast-set-phi c = omega (arith, fits (c .before .before .before .before .before .before))
 
 set-phi-requires : tie.Need-set-phi-requires
-unfolding base
 set-phi-requires c κs =
     let raised = c .before .before .before in
     let p = raised .before .before .before .pre in
-    (omega (arith, raised .raise-counts .kept .0, held-sized (p .0)), (held-small (p .0) _ (p .1 .0 .0), omega arith))
+    (omega (arith, raised .raise-counts .kept .0, held-sized (p .0)), (held-small (p .0) _ (p .1 .0 .0), omega (arith, held-room (p .0), p .1 .0 .2)))
 
 cast-set-rank : tie.Need-cast-set-rank
-unfolding base
-cast-set-rank c = omega arith
+cast-set-rank c = let p = c .before .before .before .before .before .before .before .before .before .before .pre in omega (arith, held-room (p .0), p .1 .0 .2)
 
 -- the counts before the new rank is set
 recounted : (c : tie.After-set-phi) →
@@ -55,7 +53,6 @@ recounted c =
     ∙ fall-counts (read low (a .rack .now)) (p .0 .proper) (a .i) (a .v) (p .1 .0 .0) (p .1 .0 .2) (p .1 .1 .0) (p .1 .0 .1)
 
 set-rank-requires : tie.Need-set-rank-requires
-unfolding base
 set-rank-requires c κs =
     let counted = c .before .before .before in
     let raised = counted .before .before .before .before in
@@ -65,7 +62,7 @@ set-rank-requires c κs =
       (
         held-small (p .0) _ (p .1 .0 .0),
         rank-listed (read low (s .args .rack .now)) (p .0 .proper) _ (s .args .v) (p .1 .0 .0) (counted .set-phi .last .0) (recounted counted),
-        omega (arith, p .1 .0 .2),
+        omega (arith, held-room (p .0), p .1 .0 .2),
       ),
     )
 
@@ -87,7 +84,7 @@ returns c =
     ended .set-rank .ensures ∙ ap (λ (bs : List ℕ). setRank low bs (a .v) (a .i)) (counted .set-phi .ensures)
     ∙ ap₂ last (raised .raise-counts .ensures .0) (p .1 .1 .1)
     ∙ fall-bytes s (p .0 .proper) (a .i) (a .v) (p .1 .0 .0) (p .1 .0 .2) row (p .1 .0 .1) in
-    (bytes, fall-says s (p .0 .proper) (a .i) (a .v) (p .1 .0 .0) (p .1 .0 .2) row (p .1 .0 .1) (raised .raise-counts .ensures .1))
+    (bytes, fall-says s (p .0 .proper) (a .i) (a .v) (p .1 .0 .0) (p .1 .0 .2) row (p .1 .0 .1) _ (raised .raise-counts .ensures .1))
 
 pub fall-spec : {M : Type 1} → statement M
 fall-spec =

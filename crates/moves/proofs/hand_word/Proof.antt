@@ -10,14 +10,14 @@ use lib.Count.{ones, trailingZeros}
 use borrow.Author.Needs.{needs}
 use Rattle.model.specs.Counting.{count}
 use Rattle.model.specs.Shape.{low}
-use Rattle.model.specs.State.{base, State}
+use Rattle.model.specs.State.{State}
 use Rattle.model.specs.Bytes.{rosterAt, read, write}
 use Rattle.model.proofs.Counting.{count-bound}
 use Rattle.bitset.specs.Words.{Rest}
 use Rattle.bitset.proofs.Words.{dropped-less, rest-count}
 use Rattle.bitset.proofs.Sets.{rest-ext}
 use Rattle.layout.specs.Setters.{Sized, own}
-use Rattle.moves.proofs.Held.{held-sized, held-small, held-owns, held-roster}
+use Rattle.moves.proofs.Held.{held-room, proper-ranks, held-sized, held-small, held-owns, held-roster}
 use Rattle.moves.proofs.HandWord.{goes, stays, Handing, word-goes, word-stays, handing-start, handing-sized, handing-turn, handing-next}
 use Rattle.moves.proofs.HandWord.{handing-bytes, empty-numbers, empty-handed}
 use Rattle.moves.proofs.hand_word.Statement.{statement}
@@ -38,8 +38,7 @@ v-small s = held-small (s .pre .0) (s .args .v) (s .pre .1 .0 .0)
 
 -- the level has a roster
 rank-small : (s : tie.Start Inv-loop μ-loop) → suc (s .args .i) ≤ low .levels
-unfolding base
-rank-small s = omega (arith, s .pre .0 .proper .ranks (s .args .v), s .pre .1 .0 .1)
+rank-small s = omega (arith, proper-ranks (s .pre .0 .proper) (s .args .v), held-room (s .pre .0), s .pre .1 .0 .1)
 
 -- the word of the row, and of the roster of v's level, as the state has them
 row-rest : (c : tie.After-word Inv-loop μ-loop) →

@@ -8,11 +8,11 @@ use lib.Dec.{T}
 use borrow.Author.Needs.{needs}
 use Rattle.model.specs.Counting.{upd}
 use Rattle.model.specs.Shape.{low}
-use Rattle.model.specs.State.{base, State}
+use Rattle.model.specs.State.{State}
 use Rattle.model.specs.Bytes.{phiAt, read}
 use Rattle.layout.specs.Setters.{Sized}
 use Rattle.moves.specs.Counts.{hit, loweredCounts}
-use Rattle.moves.proofs.Held.{held-sized, held-small, held-rank}
+use Rattle.moves.proofs.Held.{held-room, held-sized, held-small, held-rank}
 use Rattle.moves.proofs.Recount.{hit-counted}
 use Rattle.moves.proofs.Choices.{hit-of}
 use Rattle.model.proofs.Shapes.{low-good}
@@ -45,8 +45,7 @@ abbrev turn : tie.After-place Inv-loop μ-loop → tie.At-loop Inv-loop μ-loop
 turn c = c .before .before .before
 
 level : (at : tie.At-loop Inv-loop μ-loop) → begin at .args .i < low .levels
-unfolding base
-level at = omega arith
+level at = omega (arith, held-room (begin at .pre .0), begin at .pre .1 .0 .2)
 
 sized : (at : tie.At-loop Inv-loop μ-loop) → Sized low (at .loop .rack)
 sized at = w-sized (walk (begin at)) (at .loop .inv)
@@ -117,7 +116,7 @@ turned c =
     let r = rank-is (c .before) in
     let b = rank-low p in
     let under = begin at .pre .1 .0 in
-    let step = lowered-turn (state at) (begin at .pre .0 .proper) (a .i) (a .u) (l .rack) (l .at) (l .inv) (p .place .result) (c .if2 .rack) (place p) (small p) (level at)
+    let step = lowered-turn (state at) (begin at .pre .0 .proper) (a .i) (a .u) (l .rack) (l .at) (l .inv) (p .place .result) (c .if2 .rack) (place p) (small p) (under .2)
     (owned p) in
     ⊎-elim
     (λ k. step from (omega arith) (omega (arith, k .0 .taken)) (λ x p q. omega arith) (omega arith) (k .5 ∙ k .2 .ensures))

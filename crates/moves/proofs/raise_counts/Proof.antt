@@ -1,19 +1,19 @@
 -- `moves::raise_counts` meets its contract. The loop's invariant: the vertices of v's row that the walk has passed have their new counts, and
 -- `low` says that these are below the threshold. Assumes nothing.
-use mathlib.Core.Path.{_≡_}
+use mathlib.Core.Path.{subst, _≡_}
 use mathlib.Core.Logic.{⊎-elim}
-use Prim.Native.Nat.{_+_, _-_, _<_}
+use Prim.Native.Nat.{ℕ, _+_, _-_, _<_}
 use native.Mathlib.Omega.{arith}
 use lib.Dec.{T}
 use Rattle.model.specs.Counting.{upd}
 use Rattle.model.specs.Shape.{low}
-use Rattle.model.specs.State.{base, State}
+use Rattle.model.specs.State.{State}
 use Rattle.model.specs.Bytes.{read}
 use Rattle.model.proofs.Facts.{Says}
 use Rattle.layout.specs.Setters.{Sized}
 use Rattle.layout.proofs.Said.{says-is}
 use Rattle.moves.specs.Counts.{raisedCounts}
-use Rattle.moves.proofs.Held.{held-sized}
+use Rattle.moves.proofs.Held.{held-range, held-room, held-sized}
 use Rattle.moves.proofs.Recount.{raised-fits}
 use Rattle.model.proofs.Shapes.{low-good}
 use Rattle.layout.proofs.Walks.{row-whole}
@@ -24,7 +24,7 @@ use Rattle.moves.proofs.raise_counts.Tie as tie
 
 abbrev Inv-loop : tie.InvT-loop
 Inv-loop rack₀ v i bar under₀ at₀ rack under at =
-    let s = read low rack₀ in RowCounted low s (raisedCounts s i v) v rack at × Says under (LowTo s i v (reached (low .most) at))
+    let s = read low rack₀ in RowCounted low s (raisedCounts s i v) v rack at × Says under (LowTo bar s i v (reached (low .most) at))
 
 abbrev μ-loop : tie.MeasureT-loop
 μ-loop rack₀ v i bar under₀ at₀ rack under at = low .most - reached (low .most) at
@@ -39,7 +39,7 @@ walk d = record {
 
 -- where the function begins
 abbrev begin : tie.At-loop Inv-loop μ-loop → tie.Start Inv-loop μ-loop
-begin at = at .before .before .before .before .before
+begin at = at .before .before .before .before .before .before
 
 -- the loop, seen from a turn that has its place
 abbrev turn : tie.After-place Inv-loop μ-loop → tie.At-loop Inv-loop μ-loop
@@ -49,8 +49,7 @@ abbrev state : tie.At-loop Inv-loop μ-loop → State
 state at = read low (begin at .args .rack .now)
 
 level : (at : tie.At-loop Inv-loop μ-loop) → begin at .args .i < low .levels
-unfolding base
-level at = omega arith
+level at = omega (arith, held-room (begin at .pre .0), begin at .pre .1 .0 .2)
 
 sized : (at : tie.At-loop Inv-loop μ-loop) → Sized low (at .loop .rack)
 sized at = w-sized (walk (begin at)) (at .loop .inv .0)
@@ -76,7 +75,7 @@ raised c =
     let p = c .before .before in
     let a = begin (turn p) .args in
     let l = turn p .loop in
-    raised-is (state (turn p)) (begin (turn p) .pre .0 .proper) (a .i) (a .v) (l .rack) (l .at) (l .inv .0) (p .place .result) (c .phi .result) (place p) (small p) (level (turn p))
+    raised-is (state (turn p)) (begin (turn p) .pre .0 .proper) (a .i) (a .v) (l .rack) (l .at) (l .inv .0) (p .place .result) (c .phi .result) (place p) (small p) (begin (turn p) .pre .1 .0 .2)
     (owned p) (c .phi .ensures)
 
 turned : (c : tie.After-set-phi Inv-loop μ-loop)
@@ -90,12 +89,12 @@ turned c =
     let a = begin (turn p) .args in
     let l = turn p .loop in
     raised-turn (state (turn p)) (begin (turn p) .pre .0 .proper) (a .i) (a .v) (l .rack) (l .at) (l .inv .0) (p .place .result) (c .set-phi .last .0) (got .phi .result) (place p)
-    (small p) (level (turn p)) (raised got) (c .set-phi .ensures)
+    (small p) (begin (turn p) .pre .1 .0 .2) (raised got) (c .set-phi .ensures)
 
 -- after either branch `low` speaks of w too
 lows : (c : tie.After-next Inv-loop μ-loop)
     → let at = turn (c .before .before .before .before .before .before .before .before .before) in
-    let a = begin at .args in Says (c .before .before .if2 .low) (LowTo (state at) (a .i) (a .v) (reached (low .most) (c .next .result)))
+    let a = begin at .args in Says (c .before .before .if2 .low) (LowTo (at .before .before .before .threshold .result) (state at) (a .i) (a .v) (reached (low .most) (c .next .result)))
 lows c =
     let put = c .before .before .before .before .before in
     let got = put .before .before in
@@ -103,27 +102,29 @@ lows c =
     let at = turn p in
     let a = begin at .args in
     let w = p .place .result in
-    let bar = at .before .before .before .threshold .ensures in
+    let bar = at .before .before .before .threshold .result in
     let r = raised got in
     let next = came-next (walk (begin at)) (at .loop .inv .0) (some (p .before)) (p .place .ensures) (turned put) (c .next .ensures) in
     ⊎-elim
-    (λ k. says-is (k .1) (low-no (state at) (a .i) (a .v) (reached (low .most) (at .loop .at)) w (place p) (at .loop .inv .1) next (owned p)
+    (λ k. says-is (k .1) (low-no bar (state at) (a .i) (a .v) (reached (low .most) (at .loop .at)) w (place p) (at .loop .inv .1) next (owned p)
     (omega (arith, k .0 .taken))))
-    (λ k. says-is (k .1) (low-yes (state at) (a .i) (a .v) (reached (low .most) (at .loop .at)) w (place p) (at .loop .inv .1) next
+    (λ k. says-is (k .1) (low-yes bar (state at) (a .i) (a .v) (reached (low .most) (at .loop .at)) w (place p) (at .loop .inv .1) next
     (omega (arith, k .0 .left))))
     (c .before .before .if2 .came)
 
 threshold-requires : tie.Need-threshold-requires Inv-loop μ-loop
-threshold-requires c κs = omega arith
+threshold-requires c κs =
+    let d = c .before .before in
+    (held-sized (d .pre .0), (held-range (d .pre .0), omega (arith, held-room (d .pre .0), d .pre .1 .0 .2)))
 
 first-requires : tie.Need-first-requires Inv-loop μ-loop
-first-requires c κs = let d = c .before .before .before in (held-sized (d .pre .0), u-small (walk d))
+first-requires c κs = let d = c .before .before .before .before in (held-sized (d .pre .0), u-small (walk d))
 
 loop-holds : tie.Need-loop-holds Inv-loop μ-loop
 loop-holds c =
-    let d = c .before .before .before .before in
+    let d = c .before .before .before .before .before in
     let a = d .args in
-    (row-starts (walk d) (c .first .ensures), low-start (read low (a .rack .now)) (a .i) (a .v) (came-first (walk d) (c .first .ensures)))
+    (row-starts (walk d) (c .first .ensures), low-start (c .before .before .threshold .result) (read low (a .rack .now)) (a .i) (a .v) (came-first (walk d) (c .first .ensures)))
 
 place-requires : tie.Need-place-requires Inv-loop μ-loop
 place-requires c κs = (some c, c .before .before .loop .inv .0 .here (some c) .inside)
@@ -131,16 +132,22 @@ place-requires c κs = (some c, c .before .before .loop .inv .0 .here (some c) .
 phi-requires : tie.Need-phi-requires Inv-loop μ-loop
 phi-requires c κs = let p = c .before in (sized (turn p), (small p, level (turn p)))
 
-add-c : tie.Need-add-c Inv-loop μ-loop
-add-c c =
+fits : (c : tie.After-phi Inv-loop μ-loop) → c .phi .result + 1 < low .most
+fits c =
     let p = c .before .before in
     let d = begin (turn p) in
     let a = d .args in
-    let fits = raised-fits (state (turn p)) (d .pre .0 .proper) (a .i) (a .v) (p .place .result) (d .pre .1 .0 .0) (d .pre .1 .0 .1) (d .pre .1 .1) in
-    omega (arith, raised c, fits (owned p))
+    let few = raised-fits (state (turn p)) (d .pre .0 .proper) (a .i) (a .v) (p .place .result) (d .pre .1 .0 .0) (d .pre .1 .0 .1) (d .pre .1 .1) in
+    omega (arith, raised c, few (owned p))
+
+add-c : tie.Need-add-c Inv-loop μ-loop
+add-c c = omega (arith, fits c)
 
 set-phi-requires : tie.Need-set-phi-requires Inv-loop μ-loop
 set-phi-requires c κs = let p = c .before .before .before in (sized (turn p), (small p, level (turn p)))
+
+cast-if2 : tie.Need-cast-if2 Inv-loop μ-loop
+cast-if2 c = omega (arith, fits (c .before .before .before .before))
 
 next-requires : tie.Need-next-requires Inv-loop μ-loop
 next-requires c κs =
@@ -170,8 +177,11 @@ returns c =
     let at = c .before .before in
     let d = begin at in
     let l = at .loop in
-    let under = low-end (state at) (d .pre .0 .proper) (d .args .i) (d .args .v) (l .at) (c .if1 .left) (l .inv .1) in
-    (row-ends (walk d) (l .inv .0) (c .if1 .left), under)
+    let bar = at .before .before .before .threshold in
+    let under = low-end (bar .result) (state at) (d .pre .0 .proper) (d .args .i) (d .args .v) (l .at) (c .if1 .left) (l .inv .1) in (
+      row-ends (walk d) (l .inv .0) (c .if1 .left),
+      subst (λ (x : ℕ). Says (l .low) ((w : ℕ) → T (state at .owns (d .args .v) w) → raisedCounts (state at) (d .args .i) (d .args .v) w (d .args .i) < x)) (bar .ensures) under,
+    )
 
 pub raise-counts-spec : {M : Type 1} → statement M
 raise-counts-spec =
@@ -186,6 +196,7 @@ raise-counts-spec =
     phi-requires
     add-c
     set-phi-requires
+    cast-if2
     next-requires
     loop-less
     loop-again

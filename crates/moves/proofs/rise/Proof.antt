@@ -1,13 +1,14 @@
 -- `moves::rise` meets its contract: the owners after the first half are those that the second half asks for. Assumes nothing.
 use mathlib.Core.Path.{_≡_, sym, ap, _∙_, subst}
 use Prim.Native.Nat.{suc, _≤_, _<_}
+use native.Mathlib.Omega.{arith}
 use borrow.Author.Needs.{needs}
 use Rattle.model.specs.Shape.{low}
-use Rattle.model.specs.State.{base, State}
-use Rattle.model.specs.Bytes.{read, write}
+use Rattle.model.specs.State.{State}
+use Rattle.model.specs.Bytes.{topAt, read, write}
 use Rattle.model.specs.Change.{reown}
 use Rattle.moves.specs.Proper.{tookOver, ranked, RowBelow}
-use Rattle.moves.proofs.Held.{reads-as, held-of}
+use Rattle.moves.proofs.Held.{top-as, reads-as, held-of}
 use Rattle.moves.proofs.Keeps.{took-proper, took-row, rise-halves}
 use Rattle.moves.proofs.rise.Statement.{statement}
 use Rattle.moves.proofs.rise.Tie as tie
@@ -28,7 +29,8 @@ enter-requires c κs =
     let r : t ≡ read low bs = sym (reads-as bs t (took .take-over .ensures) q) in (
       held-of bs t (took .take-over .ensures) q,
       (
-        subst (λ (x : State). (a .u < x .n) × (x .rank (a .u) ≤ a .i) × (a .i ≤ base .top)) r (p .1 .0),
+        subst (λ (x : State). (a .u < x .n) × (x .rank (a .u) ≤ a .i) × (a .i ≤ topAt bs)) r
+            (p .1 .0 .0, p .1 .0 .1, omega (arith, p .1 .0 .2, top-as bs t (took .take-over .ensures) q)),
         subst (λ (x : State). RowBelow (a .i) (a .u) x) r (took-row s (p .0 .0 .proper) (a .i) (a .u) (p .1 .1)),
       ),
     )

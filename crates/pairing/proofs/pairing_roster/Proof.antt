@@ -8,14 +8,13 @@ use mir.Val.{toZ, ofZ}
 use mir.ValLaws.{toZ-ofZ}
 use borrow.Author.Needs.{needs}
 use Rattle.model.specs.Shape.{low}
-use Rattle.model.specs.State.{base}
 use Rattle.model.specs.Calls.{QueryAnswer, rosterQuery}
 use Rattle.pairing.proofs.pairing_roster.Statement.{statement}
 use Rattle.pairing.proofs.pairing_roster.Tie as tie
 
 -- a figure of the query is that of the level asked for
-asked : (figure : QueryAnswer → ℕ) (bs : List ℕ) {a : ℕ} {z level : ℤ} → a ≡ figure (rosterQuery base low bs z) → z ≡ level → a ≡ figure (rosterQuery base low bs level)
-asked figure bs e same = e ∙ ap (λ (i : ℤ). figure (rosterQuery base low bs i)) same
+asked : (figure : QueryAnswer → ℕ) (bs : List ℕ) {a : ℕ} {z level : ℤ} → a ≡ figure (rosterQuery low bs z) → z ≡ level → a ≡ figure (rosterQuery low bs level)
+asked figure bs e same = e ∙ ap (λ (i : ℤ). figure (rosterQuery low bs i)) same
 
 roster-requires : tie.Need-roster-requires
 roster-requires c κs = search needs

@@ -16,7 +16,7 @@ cast-put-answer c =
     let d = c .before .before .before .before in
     let s = d .before .before .before .before .before in
     let a = s .args in
-    let few = draws-few _ (brought (a .code) (a .a) (a .b) (a .words .now)) (sounded-valid (s .pre .0)) (s .pre .1 .0) in
+    let few = draws-few _ (sounded-valid (s .pre .0)) (brought (a .code) (a .a) (a .b) (a .words .now)) (s .pre .1 .0) in
     omega (arith, d .change .ensures .0 .draws, few)
 
 put-answer-requires : tie.Need-put-answer-requires

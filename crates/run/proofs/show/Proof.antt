@@ -42,7 +42,7 @@ returns : tie.Need-returns
 returns c = let r = then-run c in shown-record (r .run .ensures) (omega (arith, c .if1 .taken)) (wide r)
 
 cast-put-bad : tie.Need-cast-put-bad
-cast-put-bad c = record { fits = omega (arith, line-few _ _ _ _ (else-run (arg-else c) .run .ensures)) }
+cast-put-bad c = record { fits = omega (arith, line-few _ _ _ (else-run (arg-else c) .run .ensures)) }
 
 put-bad-requires : tie.Need-put-bad-requires
 put-bad-requires c κs = omega (arith, wide (else-run (arg-else c)))

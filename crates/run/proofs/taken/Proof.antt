@@ -1,12 +1,12 @@
 -- `run::taken` meets its contract. Assumes nothing.
 use mathlib.Core.Path.{_≡_, refl}
-use mathlib.Core.Bool.{true}
 use native.Mathlib.Omega.{arith}
-use Rattle.model.specs.Shape.{low}
-use Rattle.model.specs.State.{lowKind, empty}
+use Rattle.model.specs.State.{Kind, empty}
 use Rattle.model.specs.Bytes.{write}
-use Rattle.model.specs.Sound.{sizeGood}
-use Rattle.run.proofs.Whole.{made-none, made-new, took-none, took-record}
+use Rattle.model.specs.Calls.{askedNumber}
+use Rattle.lines.specs.Contracts.{namedBy}
+use Rattle.run.specs.Recording.{kindNamed}
+use Rattle.run.proofs.Whole.{made-back, made-new, took-back, took-record}
 use borrow.Author.Needs.{needs}
 use Rattle.run.proofs.taken.Statement.{statement}
 use Rattle.run.proofs.taken.Tie as tie
@@ -21,10 +21,14 @@ else-make c = c .before .before .before
 abbrev record-else : tie.After-put-record → tie.Else1
 record-else c = c .before .before .before
 
+-- the kind of the rack that is asked for
+abbrev asked : tie.After-make → Kind
+asked c = kindNamed (namedBy (make-start c .args .settings))
+
 -- the rack was made
-rack-made : (c : tie.Else1) → let n = make-start (else-make c) .args .n in
-    (sizeGood low n ≡ true) × (else-make c .make .last .0 ≡ write (empty lowKind n))
-rack-made c = let m = else-make c in made-new _ _ (make-start m .pre .0) (m .make .ensures) (c .if1 .left)
+rack-made : (c : tie.Else1) → let m = else-make c in let n = make-start m .args .n in
+    (askedNumber (asked m) n ≡ 0) × (m .make .last .0 ≡ write (empty (asked m) n))
+rack-made c = let m = else-make c in made-new (asked m) _ _ (make-start m .pre .0) (m .make .ensures) (c .if1 .left)
 
 make-requires : tie.Need-make-requires
 make-requires c κs = search needs
@@ -38,9 +42,10 @@ same-length c = search needs
 returns : tie.Need-returns
 returns c =
     let m = c .before .before .before .before in
-    let n = made-none _ _ (make-start m .pre .0) (m .make .ensures) (c .before .if1 .taken) in
+    let d = c .before .if1 .taken in
+    let b = made-back (asked m) _ _ (make-start m .pre .0) (m .make .ensures) d in
     let r = c .turned-back .ensures in
-    took-none _ _ _ _ (n .0) (omega (arith, r .0)) (omega (arith, r .1)) (omega (arith, r .2)) (n .1) refl
+    took-back _ _ _ _ (namedBy (make-start m .args .settings)) (b .0) d (omega (arith, r .0)) (omega (arith, r .1)) (omega (arith, r .2)) (b .1) refl
 
 put-record-requires : tie.Need-put-record-requires
 put-record-requires c κs = let e = c .before .before in (rack-made e, make-start (else-make e) .pre .1)

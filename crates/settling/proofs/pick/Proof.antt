@@ -7,11 +7,10 @@ use native.Mathlib.Omega.{arith}
 use lib.ListN.{length, getD, take}
 use borrow.Author.Needs.{needs}
 use Rattle.model.specs.Shape.{low}
-use Rattle.model.specs.State.{base}
-use Rattle.model.specs.Bytes.{read}
+use Rattle.model.specs.Bytes.{topAt, read}
 use Rattle.model.proofs.Lists.{All-at, getD-mem}
 use Rattle.queue.proofs.Places.{length-first, first-at}
-use Rattle.moves.proofs.Held.{held-sized, held-small, held-rank}
+use Rattle.moves.proofs.Held.{proper-ranks, held-room, held-sized, held-small, held-rank}
 use Rattle.settling.proofs.Picking.{Best, best-none, best-same, best-more, best-nothing, best-found}
 use Rattle.settling.proofs.pick.Statement.{statement}
 use Rattle.settling.proofs.pick.Tie as tie
@@ -104,25 +103,24 @@ past c =
     omega (arith, length-first (s .args .k) (s .args .queue .now) (s .pre .1 .0), c .loop-test .left, c .before .loop .inv .1)
 
 returns : tie.Need-returns Inv-loop μ-loop
-returns c = sym (best-nothing (c .before .before .loop .inv .0) (past (c .before)) (suc (base .top)) (c .if2 .taken))
+returns c = sym (best-nothing (c .before .before .loop .inv .0) (past (c .before)) (suc (topAt (start (c .before .before) .args .rack .now))) (c .if2 .taken))
 
 -- ranks are small
-small : (c : tie.Else2 Inv-loop μ-loop) → (1 ≤ c .before .before .loop .best) × (c .before .before .loop .best ≤ suc (base .top))
+small : (c : tie.Else2 Inv-loop μ-loop) → (1 ≤ c .before .before .loop .best) × (c .before .before .loop .best ≤ suc (topAt (start (c .before .before) .args .rack .now)))
 small c =
     let l = c .before .before in
     let b : 1 ≤ l .loop .best = omega (arith, c .if2 .left) in
     let f = l .loop .inv .0 .is b in
-    (b, omega (arith, f .ranked, start l .pre .0 .proper .ranks (l .loop .at)))
+    (b, omega (arith, f .ranked, proper-ranks (start l .pre .0 .proper) (l .loop .at)))
 
 sub-t14 : tie.Need-sub-t14 Inv-loop μ-loop
 sub-t14 c = small c .0
 
 cast-t15 : tie.Need-cast-t15 Inv-loop μ-loop
-unfolding base
-cast-t15 c = omega (arith, small c)
+cast-t15 c = omega (arith, small c, held-room (start (c .before .before) .pre .0))
 
 returns-2 : tie.Need-returns-2 Inv-loop μ-loop
-returns-2 c = sym (best-found (c .before .before .loop .inv .0) (past (c .before)) (suc (base .top)) (small c .0) (small c .1))
+returns-2 c = sym (best-found (c .before .before .loop .inv .0) (past (c .before)) (suc (topAt (start (c .before .before) .args .rack .now))) (small c .0) (small c .1))
 
 pub pick-spec : {M : Type 1} → statement M
 pick-spec =

@@ -6,11 +6,10 @@ use lib.ListN.{length}
 use native.Mathlib.Omega.{arith}
 use borrow.Author.Needs.{needs}
 use Rattle.model.specs.Shape.{low}
-use Rattle.model.specs.State.{base}
-use Rattle.model.specs.Bytes.{read}
+use Rattle.model.specs.Bytes.{rulesAt, topAt, read}
 use Rattle.model.specs.Moves.{pick, found}
 use Rattle.theory.specs.Waiting.{queuesIn}
-use Rattle.moves.proofs.Held.{held-sized}
+use Rattle.moves.proofs.Held.{held-room, held-sized}
 use Rattle.settling.specs.Settling.{queueIn, running, foundBy}
 use Rattle.settling.proofs.Holding.{all-of}
 use Rattle.settling.proofs.SettleLoop.{
@@ -28,7 +27,7 @@ use Rattle.settling.proofs.settle.Statement.{statement}
 use Rattle.settling.proofs.settle.Tie as tie
 
 abbrev Inv-loop : tie.InvT-loop
-Inv-loop rack₀ queue₀ words left₀ t₀ rack queue left t = TakingsLeft low words (running low rack₀ queue₀ t₀) (length queue₀) rack queue left t
+Inv-loop rack₀ queue₀ words left₀ t₀ rack queue left t = TakingsLeft low (rulesAt rack₀) words (running low rack₀ queue₀ t₀) (length queue₀) rack queue left t
 
 abbrev μ-loop : tie.MeasureT-loop
 μ-loop rack₀ queue₀ words left₀ t₀ rack queue left t = left
@@ -37,22 +36,24 @@ size-requires : tie.Need-size-requires Inv-loop μ-loop
 size-requires c κs = held-sized (c .before .before .before .before .pre .0 .0)
 
 top-requires : tie.Need-top-requires Inv-loop μ-loop
-top-requires c κs = tt
+top-requires c κs = held-sized (c .before .before .before .before .before .before .pre .0 .0)
+
+cast-left : tie.Need-cast-left Inv-loop μ-loop
+cast-left c = search needs
 
 add-left : tie.Need-add-left Inv-loop μ-loop
-unfolding base
-add-left c = omega (arith, c .top .ensures)
+add-left c = omega (arith, c .top .ensures, held-room (c .before .before .before .before .before .before .before .pre .0 .0))
 
 mul-left : tie.Need-mul-left Inv-loop μ-loop
 mul-left c =
-    let h = c .before .before .before .before .before .before .pre .0 .0 in
-    omega (arith, takings-few h _ _ (c .before .size .ensures) (c .top .ensures))
+    let h = c .before .before .before .before .before .before .before .pre .0 .0 in
+    omega (arith, takings-few h _ _ (c .before .before .size .ensures) (c .top .ensures))
 
 loop-holds : tie.Need-loop-holds Inv-loop μ-loop
 loop-holds c =
-    let s = c .before .before .before .before .before .before in
+    let s = c .before .before .before .before .before .before .before in
     let p = s .pre in
-    going-start _ _ _ _ _ (p .0 .0) (p .0 .1) (p .1 .0) (p .1 .1) (s .good .1 .1 .0 .1) (takings (p .0 .0) _ _ (c .before .size .ensures) (c .top .ensures))
+    going-start _ _ _ _ _ (p .0 .0) (p .0 .1) (p .1 .0) (p .1 .1) (s .good .1 .1 .0 .1) (takings (p .0 .0) _ _ (c .before .before .size .ensures) (c .top .ensures))
 
 cast-pick : tie.Need-cast-pick Inv-loop μ-loop
 cast-pick c = search needs
@@ -71,12 +72,12 @@ enum-told c = search needs
 
 -- a rack that is held has one length, and the places lent stay as many
 rack-length : (c : tie.At-loop Inv-loop μ-loop) →
-    let a = c .before .before .before .before .before .before .before .args in
+    let a = c .before .before .before .before .before .before .before .before .args in
     length (c .loop .rack) ≡ length (a .rack .now)
-rack-length c = held-sized (c .loop .inv .held) ∙ sym (held-sized (c .before .before .before .before .before .before .before .pre .0 .0))
+rack-length c = held-sized (c .loop .inv .held) ∙ sym (held-sized (c .before .before .before .before .before .before .before .before .pre .0 .0))
 
 queue-length : (c : tie.At-loop Inv-loop μ-loop) →
-    let a = c .before .before .before .before .before .before .before .args in
+    let a = c .before .before .before .before .before .before .before .before .args in
     length (c .loop .queue) ≡ length (a .queue .now)
 queue-length c = c .loop .inv .long
 
@@ -94,7 +95,7 @@ returns c =
 -- what was picked is the pick of the queues
 picked : (c : tie.After-i Inv-loop μ-loop) →
     let l = c .before .before .before .before .before .before .before .loop in
-    pick (suc (base .top)) (queuesIn (read low (l .rack) .rank) (queueIn (l .queue) (l .t))) ≡ found (c .i .given .0 .0) (c .i .given .0 .1 .0)
+    pick (suc (topAt (l .rack))) (queuesIn (read low (l .rack) .rank) (queueIn (l .queue) (l .t))) ≡ found (c .i .given .0 .0) (c .i .given .0 .1 .0)
 picked c = sym (c .before .before .pick .ensures) ∙ ap foundBy (c .i .given .1)
 
 -- a taking was left
@@ -137,6 +138,7 @@ settle-spec =
     μ-loop
     size-requires
     top-requires
+    cast-left
     add-left
     mul-left
     loop-holds

@@ -1,11 +1,13 @@
 -- `settling::take` meets its contract. Assumes nothing.
-use Prim.Native.Nat.{_≤_, _<_}
+use mathlib.Core.Path.{_≡_, ap, _∙_}
+use Prim.Native.Nat.{ℕ, _≤_, _<_, _^_}
 use native.Mathlib.Omega.{arith}
 use borrow.Author.Needs.{needs}
 use Rattle.model.specs.Shape.{low}
-use Rattle.model.specs.State.{base}
+use Rattle.model.specs.Bytes.{growthAt}
+use Rattle.moves.proofs.Held.{held-range, held-room, held-sized}
 use Rattle.settling.proofs.Requeuing.{requeued-of, room-as}
-use Rattle.settling.proofs.Takes.{Handed, handed-held, handed-waits, handed-falls, handed-draws, taken-draws, taken-falls}
+use Rattle.settling.proofs.Takes.{Handed, handed-growth, handed-held, handed-waits, handed-falls, handed-draws, taken-draws, taken-falls}
 use Rattle.settling.proofs.take.Statement.{statement}
 use Rattle.settling.proofs.take.Tie as tie
 
@@ -53,20 +55,28 @@ waits-requires c κs = search needs
 
 -- the hand-over, seen from the test
 abbrev after : tie.After-threshold → tie.After-hand-over
-after c = c .before .before .before
+after c = c .before .before .before .before
 
 -- what the test says of the vertices below
-enough : (c : tie.Then1) → let h = after (c .before) in base .thr (start (left h) .args .i) ≤ h .hand-over .result .below
-enough c = omega (arith, c .if1 .taken, c .before .threshold .ensures)
+abbrev bar : tie.After-threshold → ℕ
+bar c = let a = start (left (after c)) .args in growthAt (a .rack .now) ^ a .i
 
-few : (c : tie.Else1) → let h = after (c .before) in h .hand-over .result .below < base .thr (start (left h) .args .i)
-few c = omega (arith, c .if1 .left, c .before .threshold .ensures)
+bar-is : (c : tie.After-threshold) → c .threshold .result ≡ bar c
+bar-is c = c .threshold .ensures ∙ ap (λ (g : ℕ). g ^ start (left (after c)) .args .i) (handed-growth (handed (after c)))
+
+enough : (c : tie.Then1) → bar (c .before) ≤ after (c .before) .hand-over .result .below
+enough c = omega (arith, c .if1 .taken, bar-is (c .before))
+
+few : (c : tie.Else1) → after (c .before) .hand-over .result .below < bar (c .before)
+few c = omega (arith, c .if1 .left, bar-is (c .before))
 
 hand-over-requires : tie.Need-hand-over-requires
 hand-over-requires c κs = search needs
 
 threshold-requires : tie.Need-threshold-requires
-threshold-requires c κs = search needs
+threshold-requires c κs =
+    let h = handed-held (handed (c .before .before .before)) .0 in
+    (held-sized h, (held-range h, omega (arith, held-room h, handed-falls (handed (c .before .before .before)) .level)))
 
 cast-if1 : tie.Need-cast-if1
 cast-if1 c = search needs

@@ -3,10 +3,9 @@ use native.Mathlib.Omega.{arith}
 use lib.Dec.{T}
 use borrow.Author.Needs.{needs}
 use Rattle.model.specs.Shape.{low}
-use Rattle.model.specs.State.{base}
-use Rattle.model.specs.Bytes.{read}
+use Rattle.model.specs.Bytes.{rulesAt, read}
 use Rattle.model.specs.Moves.{due}
-use Rattle.moves.proofs.Held.{held-sized, held-small}
+use Rattle.moves.proofs.Held.{proper-pos, held-range, held-sized, held-small}
 use Rattle.settling.proofs.Steps.{due-low}
 use Rattle.settling.proofs.Entries.{level-small}
 use Rattle.settling.proofs.Turns.{Visiting, turn-high, turn-few, turn-due, turn-passed, turn-promoted}
@@ -35,32 +34,37 @@ phi-requires c κs =
     let a = visiting (c .before .before .before .before .before .before .before) in
     (held-sized (a .held), (held-small (a .held) _ (a .inside), level-small (a .held) _ (a .level)))
 
+cast-if2 : tie.Need-cast-if2
+cast-if2 c = search needs
+
 threshold-requires : tie.Need-threshold-requires
-threshold-requires c κs = search needs
+threshold-requires c κs =
+    let a = visiting (c .before .before .before .before .before .before .before .before .before) in
+    (held-sized (a .held), (held-range (a .held), level-small (a .held) _ (a .level)))
 
 same-length-2 : tie.Need-same-length-2
 same-length-2 c = search needs
 
 returns-2 : tie.Need-returns-2
 returns-2 c =
-    let s = c .before .before .before .before .before .before .before .before .before .before in
+    let s = c .before .before .before .before .before .before .before .before .before .before .before in
     turn-passed (visiting s) (s .args .words .now) (s .args .tally) (s .pre .1 .1 .0)
-    (turn-few (visiting s) (omega (arith, c .before .threshold .ensures, c .before .before .phi .ensures)))
+    (turn-few (visiting s) (omega (arith, c .before .threshold .ensures, c .before .before .before .phi .ensures)))
 
 -- both tests failed, so w is due
 abbrev start : tie.Else2 → tie.Start
-start c = c .before .before .before .before .before .before .before .before .before .before
+start c = c .before .before .before .before .before .before .before .before .before .before .before
 
-is-due : (c : tie.Else2) → T (due base (start c .args .i) (start c .args .w) (read low (start c .args .rack .now)))
+is-due : (c : tie.Else2) → T (due (rulesAt (start c .args .rack .now)) (start c .args .i) (start c .args .w) (read low (start c .args .rack .now)))
 is-due c =
     turn-due (visiting (start c))
-    (omega (arith, c .before .before .before .before .before .rank .ensures, c .before .before .before .before .if1 .left))
-    (omega (arith, c .before .threshold .ensures, c .before .before .phi .ensures, c .if2 .left))
+    (omega (arith, c .before .before .before .before .before .before .rank .ensures, c .before .before .before .before .before .if1 .left))
+    (omega (arith, c .before .threshold .ensures, c .before .before .before .phi .ensures, c .if2 .left))
 
 promote-requires : tie.Need-promote-requires
 promote-requires c κs =
     let s = start (c .before .before) in
-    let d = due-low (s .args .i) (s .args .w) (read low (s .args .rack .now)) (is-due (c .before .before)) in
+    let d = due-low (rulesAt (s .args .rack .now)) (proper-pos (s .pre .0 .0 .proper)) (s .args .i) (s .args .w) (read low (s .args .rack .now)) (is-due (c .before .before)) in
     (s .pre .0, ((s .pre .1 .0 .0, d .0, s .pre .1 .0 .1, d .1), s .pre .1 .1))
 
 same-length-3 : tie.Need-same-length-3
@@ -85,6 +89,7 @@ visit-spec =
     same-length
     returns
     phi-requires
+    cast-if2
     threshold-requires
     same-length-2
     returns-2

@@ -110,7 +110,7 @@ module _ {M : Type 1} (𝓤 : URA M) (H : Heap 𝓤) (A : Atoms 𝓤) (W : Given
   begun t got vs f e is = record {
     stand = record { at = pastRack 0 t; got = got; heads = p .heads .now; words = p .words .now };
     inv = rack-holds (p .text .now) (p .heads .now) (p .words .now) t got (p .asked .0) f e;
-    typed = subst (Is G.the-row got) (LL.tells G.the-type G′.the-laws got vs is) is;
+    typed = subst (Is G.the-row got) (G′.lowers .val-is got vs is) is;
   }
 
   walk : ent 𝓤 (onEntry 𝓤 H A read-lines.signature (κs p) (qs p) (args p) (vals p))
@@ -151,7 +151,7 @@ module _ {M : Type 1} (𝓤 : URA M) (H : Heap 𝓤) (A : Atoms 𝓤) (W : Given
       (and-then ! (here ! 25 refl) (no-more !)) (λ got _. got ≡ withRack t) (λ _ _. id⊢ 𝓤 _) (λ w got _ e″.
       peeks ! G.the-row (Is G.the-row) (shows 𝓤 H A G.the-row) got (w ∷ []) (λ is″.
       stores ! (init ! 31 refl (LL.lawful G.the-type G′.the-laws 𝓤 H A W .typed got _ is″ .0)) $
-      rewrite ! 31 (λ (z : Val). ‵ (fat fullShare (ty 5) (l 5) 0 z)) (ap only (LL.tells G.the-type G′.the-laws got _ is″)) refl $
+      rewrite ! 31 (λ (z : Val). ‵ (fat fullShare (ty 5) (l 5) 0 z)) (ap only (G′.lowers .val-is got _ is″)) refl $
       forget ! 23 refl $ forget ! 25 refl $ forget ! 27 refl $ drop ! $ move ! (0 ∷ 1 ∷ 2 ∷ 43 ∷ 41 ∷ 44 ∷ 42 ∷ 3 ∷ []) $
       -- the loop
       first ! $ blocks ! $ loops ! 𝓣 (Less p) (Less-wf p) (At p l) (turns 𝓤 H A W at-mem run p 𝓣 known l)

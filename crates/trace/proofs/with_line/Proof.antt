@@ -9,8 +9,8 @@ use Rattle.trace.specs.Steps.{countOf, withLine, headsWith}
 use Rattle.trace.proofs.with_line.Statement.{statement}
 use Rattle.trace.proofs.with_line.Tie as tie
 
-same : (p q : Progress) → p .n ≡ q .n → p .changes ≡ q .changes → p .words ≡ q .words → p .bad ≡ q .bad → p ≡ q
-same p q n changes words bad = λ i. record { n = n i; changes = changes i; words = words i; bad = bad i }
+same : (p q : Progress) → p .n ≡ q .n → p .settings ≡ q .settings → p .changes ≡ q .changes → p .words ≡ q .words → p .bad ≡ q .bad → p ≡ q
+same p q n settings changes words bad = λ i. record { n = n i; settings = settings i; changes = changes i; words = words i; bad = bad i }
 
 enum-known-line : tie.Need-enum-known-line
 enum-known-line c = search needs
@@ -26,19 +26,19 @@ cast-put-head c =
 put-head-requires : tie.Need-put-head-requires
 put-head-requires c κs = search needs
 
-add-t12 : tie.Need-add-t12
-add-t12 c = search needs
+add-t13 : tie.Need-add-t13
+add-t13 c = search needs
 
-add-t14 : tie.Need-add-t14
-add-t14 c =
+add-t15 : tie.Need-add-t15
+add-t15 c =
     let few = ap countOf (c .before .before .before .before .before .before .before .before .line .given .1) in
     record { fits = omega (arith, few, c .before .before .before .before .before .before .before .before .before .before .before .pre) }
 
 enum-told : tie.Need-enum-told
 enum-told c = search needs
 
-add-t15 : tie.Need-add-t15
-add-t15 c = search needs
+add-t16 : tie.Need-add-t16
+add-t16 c = search needs
 
 same-length : tie.Need-same-length
 same-length c = search needs
@@ -48,7 +48,7 @@ returns c =
     let a = c .before .before .before .before .before .before .before .before .before .before .before .args in
     let g = c .before .before .before .before .before .before .before .before .line .given in
     let l = Line (g .0 .0) (g .0 .1 .0) (g .0 .1 .1 .0) (g .0 .1 .1 .1 .0) (g .0 .1 .1 .1 .1 .0) in (
-      same _ (withLine l (a .got)) refl (omega arith) (omega arith) refl ∙ ap (λ (m : ChangeRead). withLine m (a .got)) (sym (g .1)),
+      same _ (withLine l (a .got)) refl refl (omega arith) (omega arith) refl ∙ ap (λ (m : ChangeRead). withLine m (a .got)) (sym (g .1)),
       _∙_ {b = headsWith l (a .got) (a .heads .now)} (c .before .before .before .before .put-head .ensures)
           (ap (λ (m : ChangeRead). headsWith m (a .got) (a .heads .now)) (sym (g .1))),
     )
@@ -57,7 +57,7 @@ returns-2 : tie.Need-returns-2
 returns-2 c =
     let a = c .before .before .before .before .args in
     let e = sym (c .before .enum-told .given .1) in (
-      same _ (withLine NoLine (a .got)) refl refl refl (omega arith) ∙ ap (λ (m : ChangeRead). withLine m (a .got)) e,
+      same _ (withLine NoLine (a .got)) refl refl refl refl (omega arith) ∙ ap (λ (m : ChangeRead). withLine m (a .got)) e,
       ap (λ (m : ChangeRead). headsWith m (a .got) (a .heads .now)) e,
     )
 
@@ -69,10 +69,10 @@ with-line-spec =
     mul-put-head
     cast-put-head
     put-head-requires
-    add-t12
-    add-t14
-    enum-told
+    add-t13
     add-t15
+    enum-told
+    add-t16
     same-length
     returns
     returns-2)

@@ -81,7 +81,12 @@ const DAMAGES: [(&str, Damage); 36] = [
     }),
     ("a line at another place", moved_line),
     ("a second rack line", |r, t| {
-        put_line(r, t, b"(rack (boards 4))\n")
+        let lines = [
+            "(rack (boards 4))\n",
+            "(rack (boards 4) (growth 4) (top 3))\n",
+        ];
+        let line = r.pick(&lines);
+        put_line(r, t, line.as_bytes())
     }),
     ("a piece cut off", |r, t| {
         let length = r.below(t.len());
@@ -149,7 +154,7 @@ fn base(random: &mut Random) -> Vec<u8> {
     };
     let n = random.between(1, 12);
     let style = random.pick(&STYLES);
-    let mut trace = Trace::start(n, limit);
+    let mut trace = Trace::start_any(random, n, limit);
     trace.change(1, 0, n - 1, &vec![7; n / 2]);
     while trace.any(random, style, 70).is_some() {}
     trace.text.into_bytes()

@@ -99,10 +99,10 @@ pub fn with_words(random: &mut Random, text: &mut Vec<u8>, number: usize) {
     put_line(random, text, change_line(code, 0, 1, &words).as_bytes());
 }
 
-const WORDS: [&str; 5] = ["rack", "boards", "add", "drop", "draws"];
-const OTHERS: [&str; 16] = [
-    "rack", "boards", "add", "drop", "draws", "adds", "ad", "dro", "dropp", "draw", "board",
-    "done", "end", "pair", "adrop", "",
+const WORDS: [&str; 7] = ["rack", "boards", "growth", "top", "add", "drop", "draws"];
+const OTHERS: [&str; 21] = [
+    "rack", "boards", "growth", "top", "add", "drop", "draws", "adds", "ad", "dro", "dropp",
+    "draw", "board", "grow", "growths", "tops", "done", "end", "pair", "adrop", "",
 ];
 
 pub fn wrong_word(random: &mut Random, text: &mut Vec<u8>) {

@@ -45,7 +45,7 @@ fn grown(seed: u64, least: usize, most: usize) -> Case {
     };
     let style = random.pick(&STYLES);
     let adds = random.pick(&[55, 70, 90]);
-    let mut trace = Trace::start(n, limit);
+    let mut trace = Trace::start_any(&mut random, n, limit);
     while trace.any(&mut random, style, adds).is_some() {}
     trace.into()
 }

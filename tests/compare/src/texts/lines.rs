@@ -73,7 +73,7 @@ pub fn families() -> Vec<Family> {
     ]
 }
 
-fn table(name: &str, meets: &'static [u32], texts: Vec<Vec<u8>>) -> Family {
+pub fn table(name: &str, meets: &'static [u32], texts: Vec<Vec<u8>>) -> Family {
     let number = texts.len() as u64;
     Family::new(name, number, meets, move |at| {
         Case::of(&texts[at as usize][..])

@@ -6,6 +6,7 @@ mod blank;
 mod crowded;
 mod damages;
 mod edits;
+mod first_lines;
 mod fixed;
 mod grown;
 mod lengths;
@@ -13,6 +14,7 @@ mod lines;
 mod mutations;
 mod numbers;
 mod passed;
+mod settings;
 mod soup;
 mod trace;
 
@@ -68,8 +70,12 @@ impl Family {
 
     /// A number that must be among the answers and isn't, given how often each
     /// came.
-    pub fn missed(&self, numbers: &[u64; 6]) -> Option<u32> {
-        let never = |number: &u32| numbers[*number as usize] == 0;
+    pub fn missed(&self, numbers: &[u64]) -> Option<u32> {
+        let never = |number: &u32| {
+            numbers
+                .get(*number as usize)
+                .is_none_or(|&times| times == 0)
+        };
         self.meets.iter().copied().find(never)
     }
 }
@@ -78,10 +84,12 @@ impl Family {
 pub fn families() -> Vec<Family> {
     let mut all = lengths::families();
     all.extend(grown::families());
+    all.extend(settings::families());
     all.extend(crowded::families());
     all.extend(passed::families());
     all.extend(damages::families());
     all.extend(lines::families());
+    all.extend(first_lines::families());
     all.extend(mutations::families());
     all.extend(soup::families());
     all.extend(numbers::families());

@@ -71,7 +71,7 @@ fn mutated(k: u64, alter: Alter) -> Case {
     let mut random = Random::new(0x4000_0000 + k);
     let byte = match random.below(4) {
         0 => random.bits() as u8,
-        _ => random.pick(b"()0123456789 adroprawsckb\n"),
+        _ => random.pick(b"()0123456789 adroprawsckbgth\n"),
     };
     let at = random.below(text.len());
     alter(&mut random, &mut text, at, byte);
@@ -87,7 +87,7 @@ fn base(seed: u64) -> Vec<u8> {
     };
     let n = random.between(1, 14);
     let style = random.pick(&STYLES);
-    let mut trace = Trace::start(n, limit);
+    let mut trace = Trace::start_any(&mut random, n, limit);
     while trace.any(&mut random, style, 65).is_some() {}
     trace.text.into_bytes()
 }

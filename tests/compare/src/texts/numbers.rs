@@ -1,8 +1,9 @@
-//! Numbers 1 to 5: buffers of other lengths, board numbers that are none, and
-//! texts that meet two or more numbers at once, of which the first is the one.
+//! Numbers 1 to 5 and 13: buffers of other lengths, board numbers that are none,
+//! settings out of range, and texts that meet two or more numbers at once, of which
+//! the first is the one.
 
 use super::lengths::exact;
-use super::trace::rack_line;
+use super::trace::{long_line, rack_line};
 use super::{Case, Family};
 use reference::{RACK_BYTES, RECORD_SPACE, TEXT_LIMIT};
 
@@ -42,7 +43,8 @@ pub fn families() -> Vec<Family> {
     let grid = grid();
     let boards = boards();
     let all = (RACKS.len() * SPACES.len() * grid.len()) as u64;
-    let at_once = Family::new("numbers at once", all, &[0, 1, 2, 3, 4, 5], move |k| {
+    let meets = &[0, 1, 2, 3, 4, 5, 13];
+    let at_once = Family::new("numbers at once", all, meets, move |k| {
         let k = k as usize;
         let (racks, spaces) = (RACKS.len(), SPACES.len());
         Case {
@@ -67,20 +69,27 @@ pub fn families() -> Vec<Family> {
     ]
 }
 
-/// Texts that fit, are too long, don't fit, or name no board number, and two of
-/// these at once.
+/// Texts that fit, are too long, don't fit, or name no board number or settings out of
+/// range, and two or more of these at once.
 fn grid() -> Vec<Vec<u8>> {
     let fits = exact(1, 300);
     let too_long = exact(2, TEXT_LIMIT + 1);
     let full = exact(3, TEXT_LIMIT);
     let noise: Vec<u8> = (0..TEXT_LIMIT + 1).map(|at| (at * at) as u8).collect();
-    let long_of_none = named(0, &too_long);
+    let long_of_none = named(&rack_line(0), &too_long);
     let mut bad = fits.clone();
     bad.push(b'(');
     vec![
-        named(0, &fits),
-        named(257, &bad),
-        named(u32::MAX, &fits),
+        named(&rack_line(0), &fits),
+        named(&rack_line(257), &bad),
+        named(&rack_line(u32::MAX), &fits),
+        named(&long_line(4, 2, 1), &fits),
+        named(&long_line(4, 9, 3), &fits),
+        named(&long_line(4, 4, 4), &bad),
+        named(&long_line(0, 1, 0), &fits),
+        named(&long_line(257, 4, 3), &fits),
+        named(&long_line(0, 9, 4), &bad),
+        named(&long_line(0, 9, 4), &too_long),
         Vec::new(),
         fits,
         too_long,
@@ -94,10 +103,10 @@ fn grid() -> Vec<Vec<u8>> {
 }
 
 /// A text with another first line.
-fn named(n: u32, text: &[u8]) -> Vec<u8> {
+fn named(first: &str, text: &[u8]) -> Vec<u8> {
     let mut lines = text.splitn(2, |&byte| byte == b'\n');
     let rest = lines.nth(1).unwrap_or(b"");
-    [rack_line(n).as_bytes(), rest].concat()
+    [first.as_bytes(), rest].concat()
 }
 
 /// Board numbers alone, before changes, and before a line that doesn't fit.

@@ -1,15 +1,19 @@
 //! Strings of random bytes, of the grammar's letters, and of its pieces.
 
-use super::trace::rack_line;
+use super::trace::{long_line, rack_line};
 use super::{Case, Family};
 use reference::checks::random::Random;
 use reference::TEXT_LIMIT;
 
 /// Pieces of the grammar.
-const PIECES: [&str; 22] = [
+const PIECES: [&str; 26] = [
     "(rack",
     " (boards ",
     "(rack (boards ",
+    ") (growth ",
+    " (growth 4)",
+    ") (top ",
+    " (top 3)",
     "))\n",
     ")",
     "(",
@@ -54,10 +58,15 @@ pub fn families() -> Vec<Family> {
         Family::new("random letters of the grammar", 3_000, &[2, 4], |k| {
             let mut random = Random::new(0x5200_0000 + k);
             let length = length(&mut random);
-            let letters = (0..length).map(|_| random.pick(b"()0123456789 adroprawsckb\n"));
+            let letters = (0..length).map(|_| random.pick(b"()0123456789 adroprawsckbgth\n"));
             Case::of(letters.collect::<Vec<u8>>())
         }),
-        Family::new("random pieces of the grammar", 20_000, &[0, 4, 5], pieces),
+        Family::new(
+            "random pieces of the grammar",
+            20_000,
+            &[0, 4, 5, 13],
+            pieces,
+        ),
     ]
 }
 
@@ -76,6 +85,8 @@ fn pieces(seed: u64) -> Case {
     let mut text = match random.below(10) {
         0 => String::new(),
         1 => String::from("(rack (boards 0"),
+        2 => String::from("(rack (boards 3) (growth 4"),
+        3 | 4 => any_long(&mut random),
         _ => rack_line(random.pick(&[0, 1, 2, 3, 257])),
     };
     for _ in 0..random.below(8) {
@@ -85,6 +96,13 @@ fn pieces(seed: u64) -> Case {
         }
     }
     Case::of(text)
+}
+
+/// A long line, at times with a number outside its range.
+fn any_long(random: &mut Random) -> String {
+    let n = random.pick(&[0, 1, 2, 3, 3, 3, 257]);
+    let growth = random.pick(&[1, 2, 3, 4, 4, 5, 8, 9]);
+    long_line(n, growth, random.pick(&[0, 1, 2, 3, 3, 3, 4]))
 }
 
 /// A change line piece by piece, each of which is at times another.

@@ -3,7 +3,7 @@
 use crate::asked::Asked;
 use reference::calls::change_rack;
 use reference::checks::random::Random;
-use reference::{Answer, Rack, TEXT_LIMIT};
+use reference::{Answer, Rack, Settings, TEXT_LIMIT};
 
 /// The most words of a line.
 pub const MOST_WORDS: usize = 128;
@@ -59,6 +59,11 @@ pub fn rack_line(n: u32) -> String {
     format!("(rack (boards {n}))\n")
 }
 
+/// Line 1 in its long form.
+pub fn long_line(n: u32, growth: u32, top: u32) -> String {
+    format!("(rack (boards {n}) (growth {growth}) (top {top}))\n")
+}
+
 pub fn change_line(code: u32, a: u32, b: u32, words: &[u32]) -> String {
     let name = if code == 1 { "add" } else { "drop" };
     let words: String = words.iter().map(|word| format!(" {word}")).collect();
@@ -75,13 +80,31 @@ pub struct Trace {
 }
 
 impl Trace {
-    /// A trace of at most so many bytes.
+    /// A trace of at most so many bytes, with the short line.
     pub fn start(n: usize, limit: usize) -> Trace {
         Trace {
             rack: Rack::empty(n),
             text: rack_line(n as u32),
             top: -1,
             limit: limit.min(TEXT_LIMIT),
+        }
+    }
+
+    /// The same with the long line, which also names 4 and 3.
+    pub fn start_with(settings: Settings, n: usize, limit: usize) -> Trace {
+        let Settings { growth, top } = settings;
+        Trace {
+            rack: Rack::empty_with(settings, n),
+            text: long_line(n as u32, growth as u32, top as u32),
+            ..Trace::start(n, limit)
+        }
+    }
+
+    /// The same with either line.
+    pub fn start_any(random: &mut Random, n: usize, limit: usize) -> Trace {
+        match random.percent(40) {
+            true => Trace::start(n, limit),
+            false => Trace::start_with(random.settings(), n, limit),
         }
     }
 

@@ -7,7 +7,14 @@ fn main() -> ExitCode {
         Ok(tally) => {
             println!(
                 "most new pairs of one change {}, most falls {}; new pairs by level {:?}",
-                tally.most_new_pairs, tally.most_falls, tally.standing
+                tally.most_new_pairs,
+                tally.most_falls,
+                [0, 1, 2, 3].map(|level| tally.standing_at(level))
+            );
+            println!(
+                "new pairs at {} levels of all settings, {} or more at each",
+                tally.standing.len(),
+                tally.standing.values().min().unwrap_or(&0)
             );
             println!(
                 "{} changes passed words over, at most {} of one change",

@@ -58,7 +58,8 @@ fn damaged(random: &mut Random) -> Vec<u8> {
         1 => 256,
         _ => random.between(1, 12),
     };
-    let mut rack = sound_rack(random, n);
+    let settings = random.settings();
+    let mut rack = sound_rack(random, settings, n);
     match random.below(8) {
         0 => rack.to_bytes(),
         1..=3 => {
@@ -81,7 +82,7 @@ fn damaged(random: &mut Random) -> Vec<u8> {
 /// Damage after which the link number and the counts are still right.
 fn damage_rack(random: &mut Random, rack: &mut Rack) {
     let (v, w) = (random.below(rack.n), random.below(rack.n));
-    match random.below(6) {
+    match random.below(8) {
         0 => rack.level[v] = random.below(5) as i32 - 1,
         1 => rack.mate[v] = Some(w),
         2 => rack.mate[v] = None,
@@ -92,6 +93,10 @@ fn damage_rack(random: &mut Random, rack: &mut Rack) {
             rack.owner[w][v] = owned;
         }
         4 => rack.owner[v][w] = !rack.owner[v][w],
+        // Other settings, by which a count may reach its threshold or a level be
+        // above the top; the counts go with them.
+        5 => rack.settings.growth = random.between(2, 8),
+        6 => rack.settings.top = random.below(4) as i32,
         _ => {
             // A pair goes to another level, or an idle board does; the owners
             // go with the levels.
@@ -120,7 +125,7 @@ fn owners_by_level(rack: &mut Rack) {
 fn damage_bytes(random: &mut Random, bytes: &mut [u8], n: usize) {
     let v = random.below((n + 2).min(256));
     let w = random.below((n + 2).min(256));
-    match random.below(12) {
+    match random.below(13) {
         0 => bytes[random.below(8)] ^= 1 << random.below(8),
         1 => bytes[0] = random.between(n.max(2) - 1, n + 1) as u8,
         2 => bytes[2] = bytes[2].wrapping_add(random.pick(&[1, 255])),
@@ -131,16 +136,7 @@ fn damage_bytes(random: &mut Random, bytes: &mut [u8], n: usize) {
             *count = count.wrapping_add(random.pick(&[1, 255]));
         }
         6 => bytes[1800 + 32 * v + w / 8] ^= 1 << (w % 8),
-        7 => {
-            // A row that names its own board, with a link number and counts
-            // that go with it.
-            bytes[1800 + 32 * v + v / 8] |= 1 << (v % 8);
-            bytes[2] = bytes[2].wrapping_add(1);
-            for j in usize::from(bytes[8 + v])..4 {
-                let count = &mut bytes[776 + 4 * v + j];
-                *count = count.wrapping_add(1);
-            }
-        }
+        7 => own_row(bytes, v),
         8 => {
             // Both bits of one link, or a row that names its own board.
             bytes[1800 + 32 * v + w / 8] |= 1 << (w % 8);
@@ -154,6 +150,19 @@ fn damage_bytes(random: &mut Random, bytes: &mut [u8], n: usize) {
             }
             bytes[9_992 + 32 * random.below(5) + v / 8] |= 1 << (v % 8);
         }
+        // Another setting, by which counts may be wrong; those above the top, say.
+        11 => bytes[4 + random.below(2)] = random.below(10) as u8,
         _ => bytes[random.below(RACK_BYTES)] = random.bits() as u8,
+    }
+}
+
+/// A row that names its own board, with a link number and counts, up to the top level,
+/// that go with it.
+fn own_row(bytes: &mut [u8], v: usize) {
+    bytes[1800 + 32 * v + v / 8] |= 1 << (v % 8);
+    bytes[2] = bytes[2].wrapping_add(1);
+    for j in usize::from(bytes[8 + v])..=usize::from(bytes[5].min(3)) {
+        let count = &mut bytes[776 + 4 * v + j];
+        *count = count.wrapping_add(1);
     }
 }

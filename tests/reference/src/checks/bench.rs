@@ -5,7 +5,7 @@ use super::{holds, same, Tally, Verdict};
 use crate::{audit, change, level, linked, make, mate, program, run, Answer};
 use crate::{RACK_BYTES, RECORD_SPACE, TEXT_LIMIT};
 
-const EXAMPLE: &str = "\
+pub const EXAMPLE: &str = "\
 (rack (boards 4))
 (add (0 1) (draws 0 0))
 (add (1 2) (draws 0 0))
@@ -14,7 +14,7 @@ const EXAMPLE: &str = "\
 (add (2 3) (draws 0 0))
 ";
 
-const EXAMPLE_RECORD: &str = "\
+pub const EXAMPLE_RECORD: &str = "\
 (rack (boards 4))
 (done (draws 1) (falls 0) (pairs 1))
 (done (draws 0) (falls 0) (pairs 1))

@@ -57,6 +57,7 @@ pub fn play_passing(passed: usize, case: &Case) -> Result<(), String> {
     same("new pairs", &pairs, &case.new_pairs)?;
     same("answer", answer, wanted)?;
     let after = Rack::from_bytes(&bytes).ok_or("the rack after it is not sound")?;
+    same("settings", after.settings, case.rack.settings)?;
     same("levels", &after.level, &case.after.level)?;
     same("mates", &after.mate, &case.after.mate)?;
     holds("owners", after.owner == case.after.owner)?;

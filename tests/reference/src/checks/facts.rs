@@ -3,11 +3,19 @@
 
 use super::book::{links_in, Book};
 use super::exact::{largest_pairing, smallest_cover, MOST_BOARDS};
+use super::settings::limits;
 use super::{holds, same};
 use crate::{rosters, Answer};
 
 fn level(rack: &[u8], v: u32) -> i32 {
     i32::from(rack[8 + v as usize]) - 1
+}
+
+/// The levels of a rack from 0 to its top level, each with its threshold: every fact
+/// is looked at "with g and t for 4 and 3" (document 02, W-207).
+fn thresholds(rack: &[u8]) -> impl Iterator<Item = (i32, usize)> {
+    let limits = limits(rack).expect("settings in range");
+    (0..).zip(limits.iter().copied())
 }
 
 /// The mate that a rack's bytes give a board.
@@ -65,20 +73,20 @@ fn mates(rack: &[u8], book: &Book) -> Result<(), String> {
         same("mate of a mate", mate(rack, w), v)?;
         same("level of a mate", level(rack, w), level(rack, v))?;
         holds(
-            "a board with a mate is at 0 to 3",
-            (0..4).contains(&level(rack, v)),
+            "a board with a mate is at 0 to t",
+            thresholds(rack).any(|(j, _)| j == level(rack, v)),
         )?;
     }
     Ok(())
 }
 
-/// Every count at j, from the book's links, is below 4^j.
+/// Every count at j from 0 to t, from the book's links, is below g^j.
 fn counts(rack: &[u8], book: &Book) -> Result<(), String> {
-    for (j, limit) in [(0, 1), (1, 4), (2, 16), (3, 64)] {
+    for (j, limit) in thresholds(rack) {
         let mut below = vec![0; book.n as usize];
         for &(a, b) in &book.links {
-            below[a as usize] += u32::from(level(rack, b) < j);
-            below[b as usize] += u32::from(level(rack, a) < j);
+            below[a as usize] += usize::from(level(rack, b) < j);
+            below[b as usize] += usize::from(level(rack, a) < j);
         }
         let over = (0..book.n).find(|&v| level(rack, v) < j && below[v as usize] >= limit);
         same("board with a count over its threshold", over, None)?;
@@ -144,7 +152,7 @@ fn chosen(below: &[u32], words: &[u32]) -> Option<u32> {
 /// after it and the levels before it.
 fn reached(before: &[u8], book: &Book, (a, b): (u32, u32)) -> Option<(i32, u32)> {
     let mut best: Option<(i32, u32)> = None;
-    for (j, limit) in [(0, 1), (1, 4), (2, 16), (3, 64)] {
+    for (j, limit) in thresholds(before) {
         for v in [a.max(b), a.min(b)] {
             let above = j > level(before, a) && j > level(before, b);
             if above && neighbours(before, book, v, j).len() >= limit {
@@ -190,11 +198,37 @@ pub fn first_of_drop(
 ) -> Option<(u32, u32)> {
     let (v, i) = (a.min(b), level(before, a));
     let below = neighbours(before, book, v, i);
-    let stays = below.len() >= 1 << (2 * i);
+    let stays = thresholds(before).any(|(j, limit)| j == i && below.len() >= limit);
     stays
         .then(|| chosen(&below, words))
         .flatten()
         .map(|y| (v, y))
+}
+
+/// The falls of an accepted change are at most t+1 a board. A board in no new pair
+/// never rises, so it falls as far as its level has gone down; one that is in a new
+/// pair falls at most from where it was to -1.
+pub fn falls(
+    before: &[u8],
+    after: &[u8],
+    book: &Book,
+    answer: &Answer,
+    new_pairs: &[(u32, u32)],
+) -> Result<(), String> {
+    let (mut least, mut most) = (0, 0);
+    for v in 0..book.n {
+        let down = level(before, v) - level(after, v);
+        if new_pairs.iter().any(|&(u, y)| u == v || y == v) {
+            most += level(before, v) + 1;
+        } else {
+            holds("only a board in a new pair rises", down >= 0)?;
+            least += down;
+        }
+    }
+    let (falls, all) = (answer.falls as i32, thresholds(before).count() as i32);
+    holds("the falls that are seen", least <= falls)?;
+    holds("the falls that there may be", falls <= least + most)?;
+    holds("at most t+1 falls a board", falls <= all * book.n as i32)
 }
 
 /// The bytes of a rack after a link was put in or taken out and nothing else
@@ -217,7 +251,8 @@ pub fn only_link_changed(before: &[u8], add: bool, a: u32, b: u32) -> Vec<u8> {
         if !add {
             *row &= !bit;
         }
-        for j in own.max(other) + 1..4 {
+        let above = own.max(other) + 1;
+        for (j, _) in thresholds(before).filter(|&(j, _)| j >= above) {
             let count = &mut rack[(776 + 4 * v) as usize + j as usize];
             *count = one(*count);
         }

@@ -2,12 +2,24 @@
 //! among them those to which no list of changes from an empty rack leads.
 
 use super::random::Random;
-use crate::Rack;
+use super::settings;
+use crate::{Rack, Settings};
+use std::ops::RangeInclusive;
 
-/// A rack from its pairs with their levels and from its links as owner and
-/// other end. Pairs must be among the links.
+/// A rack by the short form of making, from its pairs with their levels and from its
+/// links as owner and other end. Pairs must be among the links.
 pub fn drawn(n: usize, pairs: &[(usize, usize, i32)], links: &[(usize, usize)]) -> Rack {
-    let mut rack = Rack::empty(n);
+    drawn_with(Settings::SHORT, n, pairs, links)
+}
+
+/// The same at any settings.
+pub fn drawn_with(
+    settings: Settings,
+    n: usize,
+    pairs: &[(usize, usize, i32)],
+    links: &[(usize, usize)],
+) -> Rack {
+    let mut rack = Rack::empty_with(settings, n);
     for &(a, b, level) in pairs {
         rack.level[a] = level;
         rack.level[b] = level;
@@ -22,11 +34,12 @@ pub fn drawn(n: usize, pairs: &[(usize, usize, i32)], links: &[(usize, usize)]) 
 
 /// A sound rack at random. Pairs and their levels are thrown first; then all
 /// other two boards come in random order, and a link is put in if it is
-/// wanted and no count would reach its threshold. Every sound rack may come.
+/// wanted and no count would reach its threshold. Every sound rack of these settings
+/// may come.
 /// At times a board also gets too few neighbours below its level to stay there
 /// without a mate, so that parting a pair makes many boards fall.
-pub fn sound_rack(random: &mut Random, n: usize) -> Rack {
-    let mut maker = Maker::pairs(random, n);
+pub fn sound_rack(random: &mut Random, settings: Settings, n: usize) -> Rack {
+    let mut maker = Maker::pairs(random, settings, n);
     let fullness = random.pick(&[0, 10, 30, 60, 90, 100]);
     let mut others: Vec<(usize, usize)> =
         (0..n).flat_map(|v| (0..v).map(move |w| (v, w))).collect();
@@ -47,13 +60,11 @@ struct Maker {
     brittle: bool,
 }
 
-const LIMITS: [usize; 4] = [1, 4, 16, 64];
-
 impl Maker {
     /// Random pairs on random levels with their links.
-    fn pairs(random: &mut Random, n: usize) -> Maker {
+    fn pairs(random: &mut Random, settings: Settings, n: usize) -> Maker {
         let mut maker = Maker {
-            rack: Rack::empty(n),
+            rack: Rack::empty_with(settings, n),
             counts: vec![[0; 4]; n],
             lower: vec![0; n],
             brittle: random.percent(50),
@@ -64,7 +75,7 @@ impl Maker {
         let levels = random.pick(&LEVEL_LISTS);
         for two in order.chunks_exact(2) {
             if random.percent(share) {
-                let level = random.pick(levels);
+                let level = random.pick(levels).min(settings.top);
                 maker.pair(random, two[0], two[1], level);
             }
         }
@@ -79,29 +90,31 @@ impl Maker {
         self.put(random, a, b);
     }
 
-    /// The first level at which a link v-w counts for its ends.
-    fn first_counted(&self, v: usize, w: usize) -> usize {
-        (self.rack.level[v].max(self.rack.level[w]) + 1) as usize
+    /// The levels at which a link v-w counts for its ends.
+    fn counted(&self, v: usize, w: usize) -> RangeInclusive<i32> {
+        let above = self.rack.level[v].max(self.rack.level[w]) + 1;
+        above..=self.rack.settings.top
     }
 
     fn has_room(&self, v: usize, w: usize) -> bool {
+        let limit = |j| settings::limit(self.rack.settings, j);
         let (high, low) = self.by_level(v, w);
         let level = self.rack.level[high];
         if self.brittle && level > self.rack.level[low] {
-            let stays = self.lower[high] + 1 >= LIMITS[level as usize];
+            let stays = self.lower[high] + 1 >= limit(level);
             if stays {
                 return false;
             }
         }
-        let mut counted = self.first_counted(v, w)..4;
-        counted.all(|j| self.counts[v][j].max(self.counts[w][j]) + 1 < LIMITS[j])
+        let most = |j: i32| self.counts[v][j as usize].max(self.counts[w][j as usize]);
+        self.counted(v, w).all(|j| most(j) + 1 < limit(j))
     }
 
     /// Puts a link in; on equal levels either end may be the owner.
     fn put(&mut self, random: &mut Random, v: usize, w: usize) {
-        for j in self.first_counted(v, w)..4 {
-            self.counts[v][j] += 1;
-            self.counts[w][j] += 1;
+        for j in self.counted(v, w) {
+            self.counts[v][j as usize] += 1;
+            self.counts[w][j as usize] += 1;
         }
         let (high, low) = self.by_level(v, w);
         if self.rack.level[high] > self.rack.level[low] {
@@ -124,7 +137,8 @@ impl Maker {
     }
 }
 
-/// Lists of levels to throw a pair's level from.
+/// Lists of levels to throw a pair's level from; one above the top level stands for
+/// that.
 const LEVEL_LISTS: [&[i32]; 10] = [
     &[0],
     &[0, 1],

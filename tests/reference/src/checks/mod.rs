@@ -9,12 +9,16 @@ pub mod exact;
 pub mod facts;
 pub mod fair;
 pub mod fans;
+pub mod lifts;
+pub mod long_lines;
 pub mod makers;
+pub mod makings;
 pub mod order;
 pub mod random;
 pub mod refusals;
 pub mod rival;
 pub mod rosters;
+pub mod settings;
 pub mod shape;
 pub mod shortage;
 pub mod small;
@@ -24,7 +28,8 @@ pub mod traces;
 pub mod walk;
 pub mod wanderings;
 
-use crate::Answer;
+use crate::{Answer, Settings};
+use std::collections::BTreeMap;
 
 /// What a check gives: the line to print, or what failed.
 pub type Verdict = Result<String, String>;
@@ -48,8 +53,8 @@ pub struct Tally {
     pub ran_out_later: u64,
     /// Changes of walks that parted a pair at level 0 and have two new pairs.
     pub two_at_level_0: u64,
-    /// New pairs standing at each level after their change.
-    pub standing: [u64; 4],
+    /// New pairs standing after their change, by the settings of the rack and the level.
+    pub standing: BTreeMap<(Settings, i32), u64>,
     /// Changes of walks that come out otherwise with the lowest number first.
     pub decided: u64,
 }
@@ -66,6 +71,17 @@ impl Tally {
         let passed = answer.draws - new_pairs as u64;
         self.passing += u64::from(passed > 0);
         self.most_passed = self.most_passed.max(passed);
+    }
+
+    /// A new pair that stands after its change.
+    pub fn stands(&mut self, settings: Settings, level: i32) {
+        *self.standing.entry((settings, level)).or_default() += 1;
+    }
+
+    /// How many new pairs stand at a level, at all settings together.
+    pub fn standing_at(&self, level: i32) -> u64 {
+        let there = self.standing.iter().filter(|((_, at), _)| *at == level);
+        there.map(|(_, times)| times).sum()
     }
 
     /// One line about the changes tried since an earlier tally, or an error if
@@ -94,9 +110,13 @@ impl Tally {
         ))
     }
 
-    /// An error unless all that walks are to meet was met.
+    /// An error unless all that walks are to meet was met: new pairs at all settings, at
+    /// every level that boards can draw at, and at no other.
     fn walks_met_all(&self) -> Result<(), String> {
-        came("a new pair at level", &self.standing, &[0, 1, 2, 3])?;
+        let of = |settings| settings::drawn_at(settings).map(move |level| (settings, level));
+        let wanted: Vec<(Settings, i32)> = Settings::all().flat_map(of).collect();
+        let met: Vec<(Settings, i32)> = self.standing.keys().copied().collect();
+        same("settings and levels of new pairs", met, wanted)?;
         holds("the order decides some changes", self.decided > 0)?;
         holds("some changes pass many words over", self.most_passed > 9)?;
         holds("some are made with few words", self.made_with_few > 0)?;
@@ -132,34 +152,42 @@ pub fn holds(what: &str, yes: bool) -> Result<(), String> {
     Err(format!("does not hold: {what}"))
 }
 
-/// All checks in order, each with its line to print.
+/// All checks in order.
+const CHECKS: [fn(&mut Tally) -> Verdict; 28] = [
+    bench::worked_example,
+    bench::bench_cases,
+    cases::hand_worked,
+    order::first_served,
+    fair::hand_worked,
+    fair::refused_by_12,
+    stars::every_place,
+    stars::every_star,
+    fans::fans,
+    settings::told_by_hand,
+    lifts::every_rise,
+    lifts::every_hub,
+    stars::every_fall,
+    makings::making,
+    refusals::calls_turned_back,
+    refusals::changes_turned_back,
+    refusals::runs_turned_back,
+    rosters::told_by_hand,
+    rosters::every_bit,
+    audits::audits_agree,
+    small::every_small_rack,
+    wanderings::from_empty_racks,
+    wanderings::from_empty_racks_of_all_settings,
+    wanderings::from_random_racks,
+    wanderings::from_large_random_racks,
+    texts::damaged_lines,
+    long_lines::long_lines,
+    traces::random_texts,
+];
+
+/// Makes all checks, each with its line to print.
 pub fn all(print: &mut dyn FnMut(&str)) -> Result<Tally, String> {
     let mut tally = Tally::default();
-    type Check = fn(&mut Tally) -> Verdict;
-    let checks: [Check; 21] = [
-        bench::worked_example,
-        bench::bench_cases,
-        cases::hand_worked,
-        order::first_served,
-        fair::hand_worked,
-        fair::refused_by_12,
-        stars::every_place,
-        stars::every_star,
-        fans::fans,
-        refusals::calls_turned_back,
-        refusals::changes_turned_back,
-        refusals::runs_turned_back,
-        rosters::told_by_hand,
-        rosters::every_bit,
-        audits::audits_agree,
-        small::every_small_rack,
-        wanderings::from_empty_racks,
-        wanderings::from_random_racks,
-        wanderings::from_large_random_racks,
-        texts::damaged_lines,
-        traces::random_texts,
-    ];
-    for check in checks {
+    for check in CHECKS {
         let line = check(&mut tally)?;
         print(&line);
     }

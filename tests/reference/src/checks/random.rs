@@ -1,5 +1,7 @@
 //! A small repeatable source of random numbers (splitmix64).
 
+use crate::Settings;
+
 pub struct Random {
     state: u64,
 }
@@ -40,6 +42,17 @@ impl Random {
     pub fn shuffle<T>(&mut self, list: &mut [T]) {
         for last in (1..list.len()).rev() {
             list.swap(last, self.below(last + 1));
+        }
+    }
+
+    /// Settings of a rack: 4 and 3 in half of the cases, and otherwise any.
+    pub fn settings(&mut self) -> Settings {
+        if self.percent(50) {
+            return Settings::SHORT;
+        }
+        Settings {
+            growth: self.between(2, 8),
+            top: self.below(4) as i32,
         }
     }
 

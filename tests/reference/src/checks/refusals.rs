@@ -10,13 +10,13 @@ use crate::{Answer, Outcome, Rack, RACK_BYTES, RECORD_SPACE, TEXT_LIMIT};
 
 /// Among them the length of document 01, which was the right one before the
 /// rosters.
-const WRONG_LENGTHS: [usize; 8] = [0, 1, 9_991, 9_992, 9_993, 10_151, 10_153, 20_000];
+pub const WRONG_LENGTHS: [usize; 8] = [0, 1, 9_991, 9_992, 9_993, 10_151, 10_153, 20_000];
 
 /// Levels to ask about, most of which no board can stand at.
 const LEVELS: [i32; 11] = [i32::MIN, -257, -3, -2, -1, 0, 3, 4, 5, 255, i32::MAX];
 
 /// Bytes with no meaning, to see that they stay.
-fn noise(length: usize) -> Vec<u8> {
+pub fn noise(length: usize) -> Vec<u8> {
     (0..length).map(|at| (at * 31 % 251) as u8).collect()
 }
 
@@ -58,7 +58,6 @@ pub fn calls_turned_back(_: &mut Tally) -> Verdict {
         same("roster", roster(&buffer, at), (6, 0))?;
     }
     queries_on_a_sound_rack()?;
-    making_any()?;
     Ok("making, audit and queries turned back by 1, 5, 6, 8, 9: ok".into())
 }
 
@@ -98,30 +97,17 @@ fn queries_on_a_sound_rack() -> Result<(), String> {
     Ok(())
 }
 
-/// Making gives the same bytes whatever the buffer held.
-fn making_any() -> Result<(), String> {
-    for n in 1..=256 {
-        let mut rack = noise(RACK_BYTES);
-        same("make", make(&mut rack, n), 0)?;
-        same("audit", audit(&rack), (0, true))?;
-        let mut wanted = vec![0; RACK_BYTES];
-        wanted[..2].copy_from_slice(&(n as u16).to_le_bytes());
-        wanted[264..776].fill(255);
-        for v in 0..n as usize {
-            wanted[9_992 + v / 8] |= 1 << (v % 8);
-        }
-        holds("a rack made is empty", rack == wanted)?;
-    }
-    Ok(())
-}
-
 /// Changes with all mixtures of things amiss, on good and bad buffers.
 pub fn changes_turned_back(tally: &mut Tally) -> Verdict {
     let good = some_rack();
-    let mut unsound = good.clone();
-    unsound[5] = 1;
+    let mut buffers = vec![(None, good.clone()), (Some(1), noise(9_992))];
+    for (at, byte) in UNSOUND {
+        let mut unsound = good.clone();
+        unsound[at] = byte;
+        buffers.push((Some(6), unsound));
+    }
     let earlier = tally.clone();
-    for (fixed, buffer) in [(None, good), (Some(6), unsound), (Some(1), noise(9_992))] {
+    for (fixed, buffer) in buffers {
         for code in [0, 1, 2, 3, 257, u32::MAX] {
             for a in BOARDS {
                 for b in BOARDS {
@@ -135,6 +121,9 @@ pub fn changes_turned_back(tally: &mut Tally) -> Verdict {
         "changes turned back by 1 and 6 to 12 ({tried}): ok"
     ))
 }
+
+/// Bytes 4 to 7 that no sound rack has, each at its place.
+const UNSOUND: [(usize, u8); 5] = [(4, 1), (4, 9), (5, 4), (6, 1), (7, 128)];
 
 const BOARDS: [u32; 9] = [0, 1, 2, 4, 5, 6, 256, 65_536, u32::MAX];
 
@@ -185,8 +174,8 @@ pub fn runs_turned_back(_: &mut Tally) -> Verdict {
         ("(rack (boards 4294967296))\n", 4, 1),
         ("(rack (boards 4))\n(add (9 1) (draws 0 0))\n", 0, 0),
     ];
-    let mut numbers = [0; 6];
-    for (text, number, line) in texts {
+    let mut numbers = [0; 14];
+    for (text, number, line) in texts.into_iter().chain(SETTINGS) {
         for rack in [0, 9_992, 10_151, 10_152, 10_153] {
             for record in [0, 65_535, 65_536, 65_537, 70_000] {
                 let first = first_number(rack, number, record);
@@ -196,10 +185,23 @@ pub fn runs_turned_back(_: &mut Tally) -> Verdict {
             }
         }
     }
-    came("number", &numbers, &[0, 1, 2, 3, 4, 5])?;
+    came("number", &numbers, &[0, 1, 2, 3, 4, 5, 13])?;
     let tried: u64 = numbers.iter().sum();
-    Ok(format!("{tried} runs turned back by 1 to 5 or not: ok"))
+    Ok(format!(
+        "{tried} runs turned back by 1 to 5, by 13 or not: ok"
+    ))
 }
+
+/// Texts that name settings, with their number and line.
+const SETTINGS: [(&str, u32, usize); 7] = [
+    ("(rack (boards 4) (growth 1) (top 3))\n", 13, 0),
+    ("(rack (boards 4) (growth 9) (top 4))\n", 13, 0),
+    ("(rack (boards 4) (growth 4) (top 4294967295))\n", 13, 0),
+    ("(rack (boards 4) (growth 4) (top 4294967296))\n", 4, 1),
+    ("(rack (boards 4) (growth 0) (top 0))\n\n", 4, 2),
+    ("(rack (boards 0) (growth 9) (top 4))\n", 5, 0),
+    ("(rack (boards 257) (growth 2) (top 0))\n", 5, 0),
+];
 
 /// The record of the only trace that is run, and that of the text of no bytes.
 const RECORD: &[u8] = b"(rack (boards 4))\n(refused 8)\n(end (pairs 0) (mean 0 0))\n";

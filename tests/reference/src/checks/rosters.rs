@@ -195,7 +195,8 @@ pub fn every_bit(tally: &mut Tally) -> Verdict {
     let mut bits = 0;
     for n in TURNED {
         let mut random = Random::new(0x2057_0000 + n as u64);
-        let rack = sound_rack(&mut random, n).to_bytes();
+        let settings = random.settings();
+        let rack = sound_rack(&mut random, settings, n).to_bytes();
         let told = |why| format!("a roster's bit turned on a rack of {n} boards: {why}");
         same("audit", audit(&rack), (0, true)).map_err(told)?;
         for bit in 0..8 * 160 {

@@ -2,9 +2,14 @@
 //! picture link by link, the picture is written out again, and the two must be
 //! the same bytes; what the picture may not hold is looked for in it.
 
+use super::settings::limits;
+
 /// What the bytes of a rack say. A link stands as owner and other end.
 struct Picture {
     n: usize,
+    growth: u8,
+    /// The thresholds, one for each level from 0 to the top level.
+    limits: &'static [usize],
     links: Vec<(usize, usize)>,
     levels: Vec<u8>,
     mates: Vec<u16>,
@@ -22,7 +27,8 @@ pub fn examine(bytes: &[u8]) -> Result<(), String> {
     examine_links(&picture)?;
     examine_mates(&picture)?;
     for (v, count) in counts.iter().enumerate() {
-        if count[0] > 0 || count[1] > 3 || count[2] > 15 || count[3] > 63 {
+        let mut both = count.iter().zip(picture.limits);
+        if both.any(|(count, limit)| count >= limit) {
             return Err(format!("board {v} has counts {count:?}"));
         }
     }
@@ -37,13 +43,18 @@ fn look(bytes: &[u8]) -> Result<Picture, String> {
     let mates = bytes[264..264 + 2 * n].chunks(2);
     let picture = Picture {
         n,
+        growth: bytes[4],
+        limits: limits(bytes).ok_or(format!("settings {} {}", bytes[4], bytes[5]))?,
         links: look_at_rows(&bytes[1800..1800 + 32 * n], n),
         levels: bytes[8..8 + n].to_vec(),
         mates: mates
             .map(|two| u16::from_le_bytes([two[0], two[1]]))
             .collect(),
     };
-    if let Some(high) = picture.levels.iter().find(|&&level| level > 4) {
+    // There are as many levels from 0 on as the highest level byte is.
+    let most = picture.limits.len();
+    let high = |level: &&u8| usize::from(**level) > most;
+    if let Some(high) = picture.levels.iter().find(high) {
         return Err(format!("level byte {high}"));
     }
     Ok(picture)
@@ -68,14 +79,14 @@ fn look_at_rows(rows: &[u8], n: usize) -> Vec<(usize, usize)> {
 }
 
 /// The counts of all boards, gathered by going through the links once: each
-/// link counts for both its ends at every level above both.
+/// link counts for both its ends at every level above both, up to the top level.
 fn tell_counts(picture: &Picture) -> Vec<[usize; 4]> {
     let mut counts = vec![[0; 4]; picture.n];
     for &(v, w) in &picture.links {
         // A level byte is the lowest level above the board.
         let above = picture.levels[v].max(picture.levels[w]);
         for end in [v, w] {
-            for count in &mut counts[end][usize::from(above)..] {
+            for count in &mut counts[end][usize::from(above)..picture.limits.len()] {
                 *count += 1;
             }
         }
@@ -87,7 +98,7 @@ fn write(picture: &Picture, counts: &[[usize; 4]]) -> Vec<u8> {
     let mut head = Vec::with_capacity(10_152);
     head.extend((picture.n as u16).to_le_bytes());
     head.extend((picture.links.len() as u16).to_le_bytes());
-    head.extend([0; 4]);
+    head.extend([picture.growth, picture.limits.len() as u8 - 1, 0, 0]);
     head.extend(&picture.levels);
     head.resize(264, 0);
     head.extend(picture.mates.iter().flat_map(|mate| mate.to_le_bytes()));

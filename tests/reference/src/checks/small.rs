@@ -2,42 +2,77 @@
 
 use super::walk::Walk;
 use super::{holds, same, shape, Tally, Verdict};
-use crate::{sound, Rack};
+use crate::{sound, Rack, Settings};
+
+/// Growths and top levels of which all racks of four boards are tried; those of up to
+/// three boards are tried at all settings. Of four boards each has at most three
+/// neighbours, so that with no growth above 3 a board rises to level 1.
+const FOUR_BOARDS: [(usize, i32); 4] = [(4, 3), (2, 1), (2, 2), (3, 1)];
 
 pub fn every_small_rack(tally: &mut Tally) -> Verdict {
     let earlier = tally.clone();
-    let mut racks = Vec::new();
-    for n in 1..=4 {
-        let mut found = 0;
-        for pairing in pairings(n) {
-            found += racks_with(&pairing, tally)?;
+    let mut short = Vec::new();
+    let mut all = 0;
+    for settings in Settings::all() {
+        let four = FOUR_BOARDS.contains(&(settings.growth, settings.top));
+        for n in 1..=if four { 4 } else { 3 } {
+            let mut found = 0;
+            for pairing in pairings(settings, n) {
+                found += racks_with(&pairing, tally)?;
+            }
+            let told = format!("sound racks of {n} boards, {settings:?}");
+            same(&told, found, sound_racks(settings, n))?;
+            all += found;
+            if settings == Settings::SHORT {
+                short.push(found);
+            }
         }
-        racks.push(found);
     }
-    // One is without pairs. A pair has 4 levels and 2 owners, and of three or four
-    // boards each idle one may be linked to either end. Of the two pairs of four
-    // boards, linked in 4 places, either end may be the owner on equal levels.
-    let one_pair = |choices: u64, idle| choices * 4 * 2 * 4_u64.pow(idle);
-    let two_pairs = 3 * 2 * 2 * (4 * 3_u64.pow(4) + 12 * 2_u64.pow(4));
-    let all = vec![
-        1,
-        1 + one_pair(1, 0),
-        1 + one_pair(3, 1),
-        1 + one_pair(6, 2) + two_pairs,
-    ];
-    same("sound racks of 1, 2, 3, 4 boards", &racks, &all)?;
+    same("those of the short form", &short, &vec![1, 9, 97, 6961])?;
     let tried = tally.since(&earlier, &[0, 9, 10, 11, 12])?;
     Ok(format!(
-        "all {racks:?} sound racks of 1, 2, 3, 4 boards, every change ({tried}): ok"
+        "all {short:?} sound racks of 1, 2, 3, 4 boards, {all} of all settings, every change ({tried}): ok"
     ))
+}
+
+/// How many sound racks of up to four boards there are.
+///
+/// One is without pairs. A pair has t+1 levels and 2 owners, and of three or four
+/// boards each idle one may be linked to either end. Of the two pairs of four boards,
+/// linked in 4 places, either end may be the owner on equal levels.
+///
+/// This is so where no count can reach its threshold: boards have at most three
+/// neighbours, so only that of level 1 matters, and only to those at level 0. With
+/// growth 2 no board at level 0 has a neighbour below 1 beside its mate; with growth 3
+/// it has at most one, which is for two pairs 17 choices: none, one of 4 places with 2
+/// owners, or two of them that have no common board.
+fn sound_racks(settings: Settings, n: usize) -> u64 {
+    let levels = settings.top as u64 + 1;
+    let at_0 = match (settings.top, settings.growth) {
+        (0, _) => 4,
+        (_, growth) => growth.min(4),
+    };
+    // The ways to link the idle boards to a pair at 0, and to link two pairs at 0.
+    let (of_three, of_four, of_two) = match at_0 {
+        2 => (1, 1, 1),
+        3 => (4, 9, 17),
+        _ => (4, 16, 81),
+    };
+    let two_pairs = of_two + (levels - 1) * 81 + levels * (levels - 1) * 16;
+    match n {
+        1 => 1,
+        2 => 1 + levels * 2,
+        3 => 1 + 3 * 2 * (of_three + (levels - 1) * 4),
+        _ => 1 + 6 * 2 * (of_four + (levels - 1) * 16) + 3 * 2 * 2 * two_pairs,
+    }
 }
 
 /// All racks of n boards without links, each with other pairs and levels: the
 /// lowest board not yet spoken for stays idle or gets each higher one as mate
 /// on each level.
-fn pairings(n: usize) -> Vec<Rack> {
+fn pairings(settings: Settings, n: usize) -> Vec<Rack> {
     let mut done = Vec::new();
-    let mut open = vec![(Rack::empty(n), 0)];
+    let mut open = vec![(Rack::empty_with(settings, n), 0)];
     while let Some((rack, v)) = open.pop() {
         if v == n {
             done.push(rack);
@@ -45,7 +80,7 @@ fn pairings(n: usize) -> Vec<Rack> {
         }
         open.push((rack.clone(), v + 1));
         for w in (v + 1..n).filter(|&w| rack.idle(v) && rack.idle(w)) {
-            for level in 0..4 {
+            for level in 0..=settings.top {
                 let mut paired = rack.clone();
                 (paired.mate[v], paired.mate[w]) = (Some(w), Some(v));
                 (paired.level[v], paired.level[w]) = (level, level);

@@ -151,7 +151,7 @@ fn at_each_line(line: &str) -> Result<usize, String> {
     Ok(tried)
 }
 
-fn expect_bad(text: &str, line: usize) -> Result<(), String> {
+pub fn expect_bad(text: &str, line: usize) -> Result<(), String> {
     let printed = String::from_utf8_lossy(&program(text.as_bytes())).into_owned();
     same(&format!("{text:?}"), printed, format!("(bad 4 {line})\n"))?;
     same(
@@ -200,6 +200,7 @@ fn fits(line: &[u8], first: bool) -> bool {
     };
     match &numbers[..] {
         [n] if first => line == format!("(rack (boards {n}))"),
+        [n, g, t] if first => line == format!("(rack (boards {n}) (growth {g}) (top {t}))"),
         [a, b, words @ ..] if !first && words.len() <= 128 => {
             let words: String = words.iter().map(|word| format!(" {word}")).collect();
             let end = format!(" ({a} {b}) (draws{words}))");

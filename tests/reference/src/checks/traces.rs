@@ -5,7 +5,7 @@ use super::random::Random;
 use super::texts::first_bad_line;
 use super::{came, holds, same, Tally, Verdict};
 use crate::image::owns;
-use crate::{change_with_pairs, level, make, mate, run, Outcome};
+use crate::{change_with_pairs, level, make, make_with, mate, run, Outcome};
 use crate::{RACK_BYTES, RECORD_SPACE, TEXT_LIMIT};
 
 const SEEDS: u64 = 6_000;
@@ -14,7 +14,7 @@ const SEEDS: u64 = 6_000;
 const LENT: u8 = 7;
 
 pub fn random_texts(tally: &mut Tally) -> Verdict {
-    let mut numbers = [0; 6];
+    let mut numbers = [0; 14];
     one_text(b"", tally).map_err(|why| format!("text of no bytes: {why}"))?;
     for seed in 0..SEEDS {
         let mut random = Random::new(0x7e87_0000 + seed);
@@ -25,7 +25,7 @@ pub fn random_texts(tally: &mut Tally) -> Verdict {
         let number = one_text(&text, tally).map_err(|why| format!("text of seed {seed}: {why}"))?;
         numbers[number as usize] += 1;
     }
-    came("number", &numbers, &[0, 2, 4, 5])?;
+    came("number", &numbers, &[0, 2, 4, 5, 13])?;
     let (read, bad) = (numbers[0], SEEDS - numbers[0]);
     Ok(format!("{read} random texts run, {bad} turned back: ok"))
 }
@@ -82,15 +82,19 @@ fn wanted(text: &[u8], tally: &mut Tally) -> Result<(Vec<u8>, String), (u32, usi
     let Some(first) = lines.next() else {
         return Ok((rack, "(end (pairs 0))\n".into()));
     };
-    let n = numbers(first)[0];
-    if make(&mut rack, n) == 5 {
-        return Err((5, 0));
+    let named = numbers(first);
+    let number = match named[..] {
+        [n, growth, top] => make_with(&mut rack, n, growth, top),
+        _ => make(&mut rack, named[0]),
+    };
+    if number != 0 {
+        return Err((number, 0));
     }
     let mut record = format!("{first}\n");
     for line in lines {
         record += &told(&mut rack, line, tally);
     }
-    record += &ending(&rack, n);
+    record += &ending(&rack, named[0]);
     Ok((rack, record))
 }
 
@@ -144,7 +148,7 @@ fn random_text(random: &mut Random) -> Vec<u8> {
         12..=21 => 1,
         _ => random.between(2, 12),
     };
-    let mut text = format!("(rack (boards {n}))\n");
+    let mut text = random_first_line(random, n);
     for _ in 0..random.between(0, 60) {
         let name = random.pick(&["add", "add", "add", "drop"]);
         let (a, b) = (random_board(random, n), random_board(random, n));
@@ -159,6 +163,19 @@ fn random_text(random: &mut Random) -> Vec<u8> {
     text.into_bytes()
 }
 
+/// Line 1, in either form, at times with a setting outside its range.
+fn random_first_line(random: &mut Random, n: usize) -> String {
+    if random.percent(40) {
+        return format!("(rack (boards {n}))\n");
+    }
+    let odd = random.percent(8);
+    let (growth, top) = match odd {
+        true => (random.below(12), random.below(6)),
+        false => (random.between(2, 8), random.below(4)),
+    };
+    format!("(rack (boards {n}) (growth {growth}) (top {top}))\n")
+}
+
 fn random_board(random: &mut Random, n: usize) -> usize {
     if random.percent(2) {
         return random.pick(&[n, n + 1, 256]).min(u32::MAX as usize);
@@ -169,7 +186,7 @@ fn random_board(random: &mut Random, n: usize) -> usize {
 /// One byte put in, taken out or changed, two swapped, a piece said twice, or
 /// the end cut off.
 fn damage(random: &mut Random, text: &mut Vec<u8>) {
-    let letters = b"()0123456789 adroprawsckb\n\r\t";
+    let letters = b"()0123456789 adroprawsckbgth\n\r\t";
     let byte = if random.percent(80) {
         random.pick(letters)
     } else {

@@ -6,7 +6,7 @@ use super::random::Random;
 use super::rival::{order_decides, order_may_decide};
 use super::shortage::runs_out;
 use super::{facts, holds, same, shape, Tally};
-use crate::{change, change_with_pairs, sound, Answer, Rack};
+use crate::{change, change_with_pairs, sound, Answer, Rack, Settings};
 use std::panic::{catch_unwind, AssertUnwindSafe};
 
 /// An answer and its new pairs.
@@ -73,7 +73,9 @@ impl Walk {
             holds("a refused change writes nothing", self.rack == before)?;
         } else {
             self.look()?;
+            same("bytes 4 to 7", &self.rack[4..8], &before[4..8])?;
             facts::of_answer(&self.rack, &self.book, words, &answer, &new_pairs)?;
+            facts::falls(&before, &self.rack, &self.book, &answer, &new_pairs)?;
             self.look_at_start(&before, code, (a, b), words, &new_pairs)?;
             if let Some(most) = facts::most_at_level_0(&before, &self.book, code, (a, b)) {
                 holds("few new pairs at level 0", new_pairs.len() <= most)?;
@@ -85,7 +87,7 @@ impl Walk {
         }
         let later = number == 12 && short() > Some(0);
         tally.ran_out_later += u64::from(later);
-        self.count(tally, &answer, &new_pairs);
+        self.count(tally, opened.settings, &answer, &new_pairs);
         Ok(answer)
     }
 
@@ -147,12 +149,12 @@ impl Walk {
         Ok(order_decides(before, change, words, answer, &after))
     }
 
-    fn count(&self, tally: &mut Tally, answer: &Answer, new_pairs: &[(u32, u32)]) {
-        tally.note(answer, new_pairs.len());
-        for &(u, y) in new_pairs {
-            let level = usize::from(self.rack[8 + u as usize]);
+    fn count(&self, tally: &mut Tally, settings: Settings, answer: &Answer, new: &[(u32, u32)]) {
+        tally.note(answer, new.len());
+        for &(u, y) in new {
+            let level = i32::from(self.rack[8 + u as usize]) - 1;
             if facts::mate(&self.rack, u) == y {
-                tally.standing[level - 1] += 1;
+                tally.stands(settings, level);
             }
         }
     }

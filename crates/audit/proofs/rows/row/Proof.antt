@@ -3,10 +3,9 @@ use Prim.Native.Nat.{_≤_, _<_}
 use native.Mathlib.Omega.{arith}
 use borrow.Author.Tests.{not-true, not-false}
 use Rattle.model.specs.Shape.{low}
-use Rattle.model.specs.State.{base}
 use Rattle.model.specs.Bytes.{rankAt}
 use Rattle.layout.proofs.Said.{said, unsaid, says-no, says-by}
-use Rattle.audit.proofs.Walk.{top-adds-none}
+use Rattle.audit.proofs.Walk.{highest-adds-none}
 use borrow.Author.Needs.{needs}
 use Rattle.audit.proofs.rows.row.Statement.{statement}
 use Rattle.audit.proofs.rows.row.Tie as tie
@@ -23,15 +22,10 @@ rank-requires c κs = search needs
 cast-r : tie.Need-cast-r
 cast-r c = search needs
 
-top-requires : tie.Need-top-requires
-top-requires c κs = search needs
-
 walk-row-requires : tie.Need-walk-row-requires
-unfolding base
 walk-row-requires c κs =
-    let s = c .before .before .before .before .before .before .before .before in
-    let under = c .before .if2 .taken in
-    (s .pre .0, (omega arith, (c .before .before .before .rank .ensures, (omega (arith, under, c .before .before .top .ensures), s .pre .1 .1 .1))))
+    let s = c .before .before .before .before .before .before .before in
+    (s .pre .0, (omega arith, (c .before .before .rank .ensures, (omega (arith, c .before .if2 .taken), s .pre .1 .1 .1))))
 
 same-length : tie.Need-same-length
 same-length c = c .before .before .walk-row .kept .1 .0
@@ -40,15 +34,14 @@ returns-2 : tie.Need-returns-2
 returns-2 c =
     let w = c .before .before in
     let t = w .before .before in
-    let none = t .before .before .before in
+    let none = t .before .before in
     let s = none .before .before .before .before in
-    let under : rankAt (s .args .rack .now) (s .args .v) ≤ base .top =
-    omega (arith, t .if2 .taken, t .before .top .ensures, t .before .before .rank .ensures) in (
+    let under : rankAt (s .args .rack .now) (s .args .v) < low .levels = omega (arith, t .if2 .taken, t .before .rank .ensures) in (
       says-by
           (λ g. record {
             within = said (none .before .owns-none-from .ensures) (not-false _ (none .if1 .left));
             below = λ _. g;
-            top = λ h. absurd (omega arith);
+            highest = λ h. absurd (omega arith);
           })
           (λ g. g .below under) (w .walk-row .ensures .0),
       w .walk-row .ensures .1,
@@ -58,21 +51,20 @@ once-row-requires : tie.Need-once-row-requires
 once-row-requires c κs = search needs
 
 returns-3 : tie.Need-returns-3
-unfolding base
 returns-3 c =
     let t = c .before in
-    let none = t .before .before .before in
+    let none = t .before .before in
     let s = none .before .before .before .before in
     let bs = s .args .rack .now in
-    let high : base .top < rankAt bs (s .args .v) = omega (arith, t .if2 .left, t .before .top .ensures, t .before .before .rank .ensures) in (
+    let high : low .levels ≤ rankAt bs (s .args .v) = omega (arith, t .if2 .left, t .before .rank .ensures) in (
       says-by
           (λ g. record {
             within = said (none .before .owns-none-from .ensures) (not-false _ (none .if1 .left));
             below = λ h. absurd (omega arith);
-            top = λ _. g;
+            highest = λ _. g;
           })
-          (λ g. g .top high) (c .once-row .ensures),
-      λ _. top-adds-none low bs (s .args .tally .now) (s .args .v) (omega arith) (s .pre .1 .1 .1),
+          (λ g. g .highest high) (c .once-row .ensures),
+      λ _. highest-adds-none low bs (s .args .tally .now) (s .args .v) high (s .pre .1 .1 .1),
     )
 
 pub row-spec : {M : Type 1} → statement M
@@ -83,7 +75,6 @@ row-spec =
     returns
     rank-requires
     cast-r
-    top-requires
     walk-row-requires
     same-length
     returns-2

@@ -1,7 +1,7 @@
 -- `changes::working::carry_out` meets its contract. Assumes nothing.
 use mathlib.Core.Path.{subst}
 use Rattle.model.specs.Shape.{low}
-use Rattle.model.specs.Bytes.{read}
+use Rattle.model.specs.Bytes.{rulesAt, read}
 use Rattle.changes.specs.Working.{Workable}
 use Rattle.changes.specs.declared.working.Work.the-variants.{Rise, Part}
 use Rattle.changes.proofs.Wholes.{sounded-held, Dropped, dropped-begun, dropped-inside, dropped-mates, dropped-pair}
@@ -56,7 +56,7 @@ returns : tie.Need-returns
 returns c =
     let k = c .before .before .before .before .before in
     let a = risen k .args in
-    work-as (a .words .now) (read low (a .rack .now)) (k .work .given .1) (c .before .before .promote-and-settle .ensures)
+    work-as (rulesAt (a .rack .now)) (a .words .now) (read low (a .rack .now)) (k .work .given .1) (c .before .before .promote-and-settle .ensures)
 
 same-length-2 : tie.Need-same-length-2
 same-length-2 c = search needs
@@ -66,7 +66,7 @@ returns-2 c =
     let d = c .before .before .before .before .before .before in
     let k = d .before .before .before in
     let a = parted k .args in
-    work-as (a .words .now) (read low (a .rack .now)) (k .work2 .given .1) (dropped-pair (without d) (a .words .now) (c .before .before .part-and-settle .ensures))
+    work-as (rulesAt (a .rack .now)) (a .words .now) (read low (a .rack .now)) (k .work2 .given .1) (dropped-pair (without d) (a .words .now) (c .before .before .part-and-settle .ensures))
 
 pub carry-out-spec : {M : Type 1} → statement M
 carry-out-spec =

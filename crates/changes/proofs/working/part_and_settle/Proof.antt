@@ -3,7 +3,7 @@ use mathlib.Core.Path.{_∙_}
 use native.Mathlib.Omega.{arith}
 use borrow.Author.Needs.{needs}
 use Rattle.model.specs.Shape.{low}
-use Rattle.model.specs.Bytes.{read}
+use Rattle.model.specs.Bytes.{rulesAt, read}
 use Rattle.model.specs.Change.{startParted}
 use Rattle.changes.proofs.Chains.{Onward, parted-next, one-waits, settled-on}
 use Rattle.changes.proofs.working.part_and_settle.Statement.{statement}
@@ -66,7 +66,7 @@ next : (c : tie.After-waits) →
     let p = apart c in
     let w = parted p in
     let a = begin (lent (joined w)) .args in
-    Onward low (a .words .now) (startParted (a .a) (a .b) (read low (a .rack .now))) (p .part .last .0) (w .join2 .last .0) (c .waits .result)
+    Onward low (rulesAt (a .rack .now)) (a .words .now) (startParted (a .a) (a .b) (read low (a .rack .now))) (p .part .last .0) (w .join2 .last .0) (c .waits .result)
 next c =
     let w = parted (apart c) in
     let j = joined w in

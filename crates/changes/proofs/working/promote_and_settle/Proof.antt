@@ -2,7 +2,7 @@
 use native.Mathlib.Omega.{arith}
 use borrow.Author.Needs.{needs}
 use Rattle.model.specs.Shape.{low}
-use Rattle.model.specs.Bytes.{read}
+use Rattle.model.specs.Bytes.{rulesAt, read}
 use Rattle.model.specs.Moves.{promote}
 use Rattle.model.specs.Change.{start}
 use Rattle.changes.proofs.Chains.{none-waiting, Onward, promoted-next, settled-on}
@@ -41,7 +41,7 @@ slice-aggregate-settle c = search needs
 next : (c : tie.After-promote) →
     let a = begin (lent (c .before)) .args in
     let p = c .promote in
-    Onward low (a .words .now) (promote (a .words .now) (a .i) (a .u) (start (read low (a .rack .now)))) (p .last .0) (p .last .1 .0) (p .result)
+    Onward low (rulesAt (a .rack .now)) (a .words .now) (promote (a .words .now) (a .i) (a .u) (start (read low (a .rack .now)))) (p .last .0) (p .last .1 .0) (p .result)
 next c =
     let p = lent (c .before) in
     let d = begin p in

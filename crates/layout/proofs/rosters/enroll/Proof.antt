@@ -5,7 +5,6 @@ use Prim.Native.Nat.{ℕ, _+_, _-_, _*_, _≤_}
 use native.Mathlib.Omega.{arith}
 use lib.ListN.{length}
 use Rattle.model.specs.Shape.{low}
-use Rattle.model.specs.State.{lowKind}
 use Rattle.model.proofs.Shapes.{low-good}
 use Rattle.bitset.specs.Words.{stored}
 use Rattle.layout.specs.Setters.{Sized, enrolled}
@@ -15,7 +14,7 @@ use Rattle.layout.proofs.rosters.enroll.Statement.{statement}
 use Rattle.layout.proofs.rosters.enroll.Tie as tie
 
 abbrev Inv-loop : tie.InvT-loop
-Inv-loop rack₀ n at k₀ rack k = (rack ≡ enrolled lowKind n (64 * k)) × (64 * k ≤ low .most)
+Inv-loop rack₀ n at k₀ rack k = (rack ≡ enrolled low n (64 * k)) × (64 * k ≤ low .most)
 
 abbrev μ-loop : tie.MeasureT-loop
 μ-loop rack₀ n at k₀ rack k = low .most - 64 * k
@@ -41,7 +40,7 @@ below-requires c κs = search needs
 set-word-requires : tie.Need-set-word-requires Inv-loop μ-loop
 set-word-requires c κs =
     let l = c .before .before .before .loop in
-    let long = ap length (l .inv .0) ∙ enrolled-length lowKind low-good (c .before .before .before .before .before .before .args .n) (64 * l .k) in
+    let long = ap length (l .inv .0) ∙ enrolled-length low low-good (c .before .before .before .before .before .before .args .n) (64 * l .k) in
     omega (arith, long, c .before .before .before .before .roster-at .ensures .at, c .before .before .loop-test .taken)
 
 add-k : tie.Need-add-k Inv-loop μ-loop
@@ -56,10 +55,10 @@ loop-again c =
     let n = c .before .before .before .before .before .before .before .before .before .args .n in
     let x = c .before .before .before .below in
     let more = c .before .before .before .before .before .loop-test .taken in
-    let e : c .before .before .set-word .last .0 ≡ enrolled lowKind n (64 * (l .k + 1)) =
+    let e : c .before .before .set-word .last .0 ≡ enrolled low n (64 * (l .k + 1)) =
     c .before .before .set-word .ensures
     ∙ ap₂ (λ (bs : List ℕ) (i : ℕ). stored bs (i + 8 * l .k) (x .result)) (l .inv .0) (omega (arith, c .before .before .before .before .before .before .before .roster-at .ensures .at))
-    ∙ enrolled-word lowKind low-good n (l .k) (x .result) more (x .ensures) in
+    ∙ enrolled-word low low-good n (l .k) (x .result) more (x .ensures) in
     (e, omega (arith, more))
 
 same-length : tie.Need-same-length Inv-loop μ-loop
@@ -68,14 +67,14 @@ same-length c =
     let at = c .before .loop in
     omega (
       arith,
-      ap length (at .inv .0) ∙ enrolled-length lowKind low-good n (64 * at .k),
-      ap length (c .before .before .before .before .pre .1) ∙ enrolled-length lowKind low-good n 0,
+      ap length (at .inv .0) ∙ enrolled-length low low-good n (64 * at .k),
+      ap length (c .before .before .before .before .pre .1) ∙ enrolled-length low low-good n 0,
     )
 
 returns : tie.Need-returns Inv-loop μ-loop
 returns c =
     let at = c .before .loop in
-    at .inv .0 ∙ enrolled-all lowKind low-good (c .before .before .before .before .args .n) (64 * at .k) (omega (arith, c .loop-test .left))
+    at .inv .0 ∙ enrolled-all low low-good (c .before .before .before .before .args .n) (64 * at .k) (omega (arith, c .loop-test .left))
 
 pub enroll-spec : {M : Type 1} → statement M
 enroll-spec =

@@ -26,7 +26,7 @@ is-zero-requires c κs = search needs
 returns : tie.Need-returns
 returns c =
     let s = c .before .before .before in
-    span-rows low-good (s .args .rack .now) (s .pre .0) (s .args .n) (s .pre .1) (λ k. c .before .before .shared-slice-known .given k .fits) (c .is-zero .ensures)
+    span-rows low-good (s .args .rack .now) (s .pre .0) (λ k. c .before .before .shared-slice-known .given k .fits) (s .args .n) (s .pre .1) (c .is-zero .ensures)
 
 pub rows-unused-spec : {M : Type 1} → statement M
 rows-unused-spec =

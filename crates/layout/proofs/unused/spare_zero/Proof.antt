@@ -24,7 +24,7 @@ returns : tie.Need-returns
 returns c =
     let s = c .before .before .before in
     says-by (λ f k h. f k h (omega arith)) (λ f k h l. f k h)
-    (cut-says (s .args .rack .now) 4 0 (2 + low .spare) 4 8 0 (omega arith) (omega arith) (omega arith) (omega (arith, s .pre)) (c .is-zero .ensures))
+    (cut-says (s .args .rack .now) 6 0 (low .spare) 6 8 0 (omega arith) (omega arith) (omega arith) (omega (arith, s .pre)) (c .is-zero .ensures))
 
 pub spare-zero-spec : {M : Type 1} → statement M
 spare-zero-spec =

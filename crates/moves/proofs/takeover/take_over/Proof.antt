@@ -6,11 +6,11 @@ use Prim.Native.Nat.{ℕ, suc, _+_, _-_, _≤_, _<_}
 use native.Mathlib.Omega.{arith}
 use Rattle.model.specs.Counting.{count}
 use Rattle.model.specs.Shape.{low}
-use Rattle.model.specs.State.{base, State}
-use Rattle.model.specs.Bytes.{read}
+use Rattle.model.specs.State.{State}
+use Rattle.model.specs.Bytes.{kindAt, read}
 use Rattle.model.specs.Change.{reown}
 use Rattle.moves.specs.Proper.{Held, tookFrom}
-use Rattle.moves.proofs.Held.{held-sized, held-small, held-rank, held-phi, held-degree}
+use Rattle.moves.proofs.Held.{held-room, held-sized, held-small, held-rank, held-phi, held-degree}
 use Rattle.moves.proofs.Owed.{TakeOver, CanRise, owed, owed-count, over-start, over-read, over-held, over-rank, over-few, over-next, over-none}
 use Rattle.moves.proofs.takeover.take_over.Statement.{statement}
 use Rattle.moves.proofs.takeover.take_over.Tie as tie
@@ -28,15 +28,14 @@ entry c = c .before .before .before .before .before .before .before .before
 abbrev state : tie.Start Inv-loop μ-loop → State
 state s = read low (s .args .rack .now)
 
-riser : (s : tie.Start Inv-loop μ-loop) → CanRise low (state s) (s .args .i) (s .args .u)
+riser : (s : tie.Start Inv-loop μ-loop) → CanRise (kindAt low (s .args .rack .now)) (state s) (s .args .i) (s .args .u)
 riser s = record { proper = s .pre .0 .0 .proper; within = s .pre .1 .0 .0; low = s .pre .1 .1 }
 
 u-small : (s : tie.Start Inv-loop μ-loop) → s .args .u < low .most
 u-small s = held-small (s .pre .0 .0) (s .args .u) (s .pre .1 .0 .0)
 
 i-small : (s : tie.Start Inv-loop μ-loop) → s .args .i < low .levels
-unfolding base
-i-small s = omega (arith, s .pre .1 .0 .2)
+i-small s = omega (arith, held-room (s .pre .0 .0), s .pre .1 .0 .2)
 
 -- the count less the edges that u owns is what is owed
 abbrev allOwed : tie.Start Inv-loop μ-loop → ℕ
@@ -49,7 +48,7 @@ counted c =
       arith,
       c .before .before .phi .ensures,
       c .degree .ensures,
-      held-phi (s .pre .0 .0) (s .args .u) (s .args .i) (u-small s) (i-small s),
+      held-phi (s .pre .0 .0) (s .args .u) (s .args .i) (u-small s) (s .pre .1 .0 .2),
       held-degree (s .pre .0 .0) (s .args .u) (u-small s),
       owed-count (riser s) (s .pre .1 .0 .1),
     )

@@ -5,7 +5,7 @@ use Prim.Native.Nat.{_+_, _-_, _*_, _≤_, _<_}
 use native.Mathlib.Omega.{arith}
 use Rattle.model.specs.Shape.{low}
 use Rattle.model.specs.State.{State}
-use Rattle.model.specs.Bytes.{read}
+use Rattle.model.specs.Bytes.{kindAt, read}
 use Rattle.model.specs.Change.{reown}
 use Rattle.moves.specs.Proper.{Held, ownerAt, tookFrom}
 use Rattle.moves.proofs.Held.{held-sized}
@@ -27,7 +27,7 @@ start c = c .before .before
 abbrev state : tie.Start Inv-loop μ-loop → State
 state s = read low (s .args .rack .now)
 
-takes : (s : tie.Start Inv-loop μ-loop) → Takes low (state s) (s .args .u) (ownerAt (state s) (s .args .q) (s .args .u))
+takes : (s : tie.Start Inv-loop μ-loop) → Takes (kindAt low (s .args .rack .now)) (state s) (s .args .u) (ownerAt (state s) (s .args .q) (s .args .u))
 takes s = takes-rank (s .pre .0 .proper) (s .args .q) (s .args .u) (s .pre .1 .0 .0)
 
 loop-holds : tie.Need-loop-holds Inv-loop μ-loop

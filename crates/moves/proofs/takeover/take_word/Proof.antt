@@ -7,13 +7,13 @@ use Prim.Native.Nat.{ℕ, _+_, _*_, _<_}
 use native.Mathlib.Omega.{arith}
 use lib.Count.{trailingZeros}
 use Rattle.model.specs.Shape.{Shape, low}
-use Rattle.model.specs.State.{State}
-use Rattle.model.specs.Bytes.{read, write}
+use Rattle.model.specs.State.{lowWith, State}
+use Rattle.model.specs.Bytes.{kindAt, growthAt, topAt, read, write}
 use Rattle.bitset.specs.Words.{Rest}
 use Rattle.bitset.proofs.Words.{dropped-less}
 use Rattle.layout.specs.Setters.{Sized, disown}
 use Rattle.moves.specs.Proper.{ownerAt}
-use Rattle.moves.proofs.Held.{held-sized, held-small, held-owns}
+use Rattle.moves.proofs.Held.{proper-shape, held-sized, held-small, held-owns}
 use Rattle.moves.proofs.Taking.{Takes, takes-rank}
 use Rattle.moves.proofs.Turning.{among}
 use Rattle.moves.proofs.TakeWord.{TakeWord, word-none, word-start, word-sized, word-owner, word-left, word-next, word-end}
@@ -22,7 +22,7 @@ use Rattle.moves.proofs.takeover.take_word.Tie as tie
 
 abbrev Inv-loop : tie.InvT-loop
 Inv-loop rack₀ u q k missing x₀ row left₀ rack x left =
-    (s : State) → Takes low s u (ownerAt s q u) → TakeWord s u k (ownerAt s q u) missing rack₀ x₀ left₀
+    (g t : ℕ) (s : State) → Takes (lowWith g t) s u (ownerAt s q u) → TakeWord s u k (ownerAt s q u) missing rack₀ x₀ left₀
     → TakeWord s u k (ownerAt s q u) missing rack x left
 
 abbrev μ-loop : tie.MeasureT-loop
@@ -38,7 +38,7 @@ state s = read low (s .args .rack .now)
 abbrev owner : tie.Start Inv-loop μ-loop → ℕ → Bool
 owner s = ownerAt (state s) (s .args .q) (s .args .u)
 
-takes : (s : tie.Start Inv-loop μ-loop) → Takes low (state s) (s .args .u) (owner s)
+takes : (s : tie.Start Inv-loop μ-loop) → Takes (kindAt low (s .args .rack .now)) (state s) (s .args .u) (owner s)
 takes s = takes-rank (s .pre .0 .proper) (s .args .q) (s .args .u) (s .pre .1 .0 .0)
 
 u-small : (s : tie.Start Inv-loop μ-loop) → s .args .u < low .most
@@ -69,7 +69,7 @@ set-word-requires c κs =
     (held-sized (s .pre .0), (u-small s, s .pre .1 .0 .2))
 
 loop-holds : tie.Need-loop-holds Inv-loop μ-loop
-loop-holds c s _ h = h
+loop-holds c g t s _ h = h
 
 -- where the loop begins
 begun : (c : tie.After-slice-known2 Inv-loop μ-loop) →
@@ -95,7 +95,7 @@ begun c =
 taken : (c : tie.At-loop Inv-loop μ-loop) →
     let s = start c in
     TakeWord (state s) (s .args .u) (s .args .k) (owner s) (s .args .missing) (c .loop .rack) (c .loop .x) (c .loop .left)
-taken c = c .loop .inv (state (start c)) (takes (start c)) (begun (c .before))
+taken c = let bs = start c .args .rack .now in c .loop .inv (growthAt bs) (topAt bs) (state (start c)) (takes (start c)) (begun (c .before))
 
 sized : (c : tie.At-loop Inv-loop μ-loop) → Sized low (c .loop .rack)
 unfolding read
@@ -134,13 +134,13 @@ loop-less : tie.Need-loop-less Inv-loop μ-loop
 loop-less c = let l = turn c .before in dropped-less (l .loop .x) (taken l .rest .fits) (some (turn c))
 
 loop-again : tie.Need-loop-again Inv-loop μ-loop
-loop-again c s q h =
+loop-again c growth top s q h =
     let d = c .before .before in
     let t = turn c in
     let a = start (t .before) .args in
-    word-next q (t .before .loop .inv s q h) (some t)
+    word-next q (t .before .loop .inv growth top s q h) (some t)
     (subst (λ (w : ℕ). d .disown .last .0 ≡ disown (s .kind .shape) (t .before .loop .rack) w (a .u)) (d .before .before .place .ensures)
-    (d .disown .ensures ∙ ap (λ (S : Shape). disown S (t .before .loop .rack) (d .before .before .place .result) (a .u)) (sym (q .proper .shape))))
+    (d .disown .ensures ∙ ap (λ (S : Shape). disown S (t .before .loop .rack) (d .before .before .place .result) (a .u)) (sym (proper-shape (q .proper)))))
     (omega (arith, one-left t))
 
 same-length-2 : tie.Need-same-length-2 Inv-loop μ-loop

@@ -124,7 +124,7 @@ module _ {M : Type 1} (𝓤 : URA M) (H : Heap 𝓤) (A : Atoms 𝓤) (W : Given
     then got vs e is hs h same = record {
       stand = record { at = pastLine (t .stand .at) c; got = got; heads = hs; words = ws };
       inv = line-holds (p .text .now) (p .heads .now) (p .words .now) (p .asked) (t .stand) (t .inv) none c ws next got e hs h same;
-      typed = subst (Is G.the-row got) (LL.tells G.the-type G′.the-laws got vs is) is;
+      typed = subst (Is G.the-row got) (G′.lowers .val-is got vs is) is;
     }
 
     keeps-line : (u : Val) → Is S.the-row c (u ∷ []) → Sq W (With p l t (pastLine (t .stand .at) c) ws u) (runs C Λ (En l) keeping (anyQ (Turned t)))
@@ -147,7 +147,7 @@ module _ {M : Type 1} (𝓤 : URA M) (H : Heap 𝓤) (A : Atoms 𝓤) (W : Given
         peeks ! G.the-row (Is G.the-row) (shows 𝓤 H A G.the-row) got (w ∷ []) (λ is′. drop ! $
         slice-back u32 (p .κ₁) (p .q₁) (at-last (p .heads) (t .stand .heads)) (val (p .heads) ∷ []) W (named 1) (named 0) μ ε (hs .0) tt (λ same.
         move ! (2 ∷ 3 ∷ 4 ∷ []) $ land-last ! (from ! (stop !)) (store ! 34 refl (LL.lawful G.the-type G′.the-laws 𝓤 H A W .typed got _ is′ .0)) $
-        rewrite ! 34 (λ (z : Val). ‵ (fat fullShare (ty 5) (l 5) 0 z)) (ap only (LL.tells G.the-type G′.the-laws got _ is′)) refl $
+        rewrite ! 34 (λ (z : Val). ‵ (fat fullShare (ty 5) (l 5) 0 z)) (ap only (G′.lowers .val-is got _ is′)) refl $
         forget ! 8 refl $ forget ! 10 refl $ forget ! 32 refl $
         again ! (Less p) (At p l) t (then got (w ∷ []) (e .0) is′ (hs .0) (e .1) same)
         (line-less (p .text .now) (p .heads .now) (p .words .now) (p .asked) (t .stand) (t .inv) none c ws next got (e .0) (hs .0))))))
@@ -172,7 +172,7 @@ module _ {M : Type 1} (𝓤 : URA M) (H : Heap 𝓤) (A : Atoms 𝓤) (W : Given
         calls-to W next-line.ended (next-line.clauses 𝓤 H A at-mem run) (to-line ν μ δ ε (t .stand .at) (t .stand .words) (t .stand .got .words))
         fm (known .next-line) (shown 𝓤 enough)
         (and-then ! (here ! 14 refl) (and-then ! (here ! 10 refl)
-        (and-then ! (load ! (from ! (fld ! refl (stop !))) (look-in ! 32 (sub ! 2 refl (whole !)))) (no-more !))))
+        (and-then ! (load ! (from ! (fld ! refl (stop !))) (look-in ! 32 (sub ! 3 refl (whole !)))) (no-more !))))
         (λ c zs. ChangeInto (p .text .now) (t .stand .at) (t .stand .got .words) (t .stand .words) (zs .1 .0) c
         × Moved (reader p (t .stand .at)) (pastLine (t .stand .at) c) (zs .0)) (λ _ _. id⊢ 𝓤 _) (λ u c zs e.
         -- [the line; [ν ∷ κ]; [κ]; [μ]; the last reader; the last words; the words' way back; the reader's; the heads; [κ₁]; the text; room for _18; …]
@@ -191,12 +191,12 @@ module _ {M : Type 1} (𝓤 : URA M) (H : Heap 𝓤) (A : Atoms 𝓤) (W : Given
         enough = can-read (p .text .now) (p .heads .now) (p .words .now) (p .asked) (t .stand) (t .inv) none
 
         few : t .stand .got .words < 2 ^ 64
-        few = LL.owed G.the-type G′.the-laws (t .stand .got) _ (t .typed) .1 .1 .0 .1
+        few = LL.owed G.the-type G′.the-laws (t .stand .got) _ (t .typed) .1 .1 .1 .0 .1
 
   pub turns : (t : Stood p) → Sq W (At p l t) (runs C Λ (En l) mirᶜ.turn-1 (anyQ (Turned t)))
   unfolding afterTurn
   turns t =
-      sets ! (bin ! (load ! (from ! (fld ! refl (stop !))) (look-in ! 34 (sub ! 3 refl (whole !)))) (lit ! tt) tt) (init ! 24 refl (tt, tt)) $
+      sets ! (bin ! (load ! (from ! (fld ! refl (stop !))) (look-in ! 34 (sub ! 4 refl (whole !)))) (lit ! tt) tt) (init ! 24 refl (tt, tt)) $
       first ! $ branches ! (here ! 24 refl)
       (λ fits. sets ! (of-opd ! (load ! (from ! (fld ! refl (stop !))) (look-in ! 0 (sub ! 1 refl (whole !)))))
       (init ! 22 refl (tt, record { fits = at-small fits })) $
