@@ -5,7 +5,7 @@ use mathlib.Core.Path.{_≡_, refl, sym, ap, subst, _∙_}
 use mathlib.Core.Logic.{_≢_, _⊎_, inl, inr, _↔_}
 use mathlib.Core.Bool.{_&&_}
 use mathlib.Core.List.{List}
-use Prim.Native.Nat.{ℕ, suc, _-_, _^_, _≤_, _<_}
+use Prim.Native.Nat.{ℕ, suc, _^_, _≤_, _<_}
 use native.Mathlib.Omega.{arith}
 use lib.Dec.{T, ltb, eqb, ltb→lt, lt→ltb}
 use lib.ListN.{length}
@@ -16,27 +16,12 @@ use Rattle.model.specs.Sound.{sound}
 use Rattle.model.specs.Valid.{IsBytes, Valid}
 use Rattle.model.proofs.Tests.{eq?, le?, bool-ext, and-yes, and-left, or-cases}
 use Rattle.model.proofs.Shapes.{low-good}
-use Rattle.model.proofs.Fields.{size-write, edges-write, growth-write, top-write, kind-write, spare-write, rank-write, mate-write, entry-write, phi-write, owns-write, roster-write, image-bytes, Shows, image-is}
+use Rattle.model.proofs.Fields.{size-write, edges-write, growth-write, top-write, kind-write, spare-write, rank-write, mate-write, entry-write, phi-write, owns-write, roster-write, Shows, image-is}
 use Rattle.model.proofs.Facts.{Unused, Mated, Facts, sound-says}
 use Rattle.model.proofs.Reading.{read-kind, named-free, named-mate, read-size, read-rank, read-rank-past, read-mate, read-mate-past, read-owns, read-owned, not-marker, read-write}
-use Rattle.model.proofs.Limits.{edges-fit, edge-within, phi-none, mateEntry-free, mateEntry-mate, size-few, mate-past, mate-inside, phi-past, phi-few, phiEntry-low, phiEntry-le, mateEntry-few}
+use Rattle.model.proofs.Limits.{edge-within, phi-none, mateEntry-free, mateEntry-mate, size-few, mate-past, mate-inside, phi-past, phiEntry-low, phiEntry-le}
 
 -- From a valid state to sound bytes.
--- a valid state is written as bytes
-pub valid-bytes : {s : State} → GoodKind (s .kind) → Valid (rules (s .kind)) s → IsBytes (write s)
-unfolding write fieldsOf
-valid-bytes {s} kind ok =
-    let good : GoodShape (s .kind .shape) = kind .shape in
-    image-bytes (fieldsOf s) good (record {
-      n = omega (arith, size-few ok, good .named);
-      edges = edges-fit s good (size-few ok);
-      growth = omega (arith, kind .range .most);
-      top = omega (arith, kind .range .room, good .ranks);
-      rank = λ v l. omega (arith, ok .ranks v, kind .range .room, good .ranks);
-      mate = λ v l. mateEntry-few ok good v;
-      phi = λ v j l k. omega (arith, phi-few ok v j, good .counts);
-    })
-
 module _ {s : State} (kind : GoodKind (s .kind)) (ok : Valid (rules (s .kind)) s) where
   abbrev of : Shape
   of = s .kind .shape

@@ -1,4 +1,4 @@
--- What bytes say of a rack, field by field, and that a valid state reads back from what is written of it. Assumes nothing.
+-- What bytes say of a rack, field by field, and that what is written of a valid state are bytes, from which it reads back. Assumes nothing.
 use mathlib.Core.Path.{_≡_, refl, sym, ap, subst, _∙_}
 use mathlib.Core.Logic.{_≢_, inl, inr}
 use mathlib.Core.List.{List}
@@ -6,12 +6,12 @@ use Prim.Native.Nat.{ℕ, suc, _≤_, _<_}
 use native.Mathlib.Omega.{arith}
 use lib.Dec.{T, ltb, leb→le}
 use Rattle.model.specs.Shape.{Shape, GoodShape}
-use Rattle.model.specs.State.{Rules, State}
-use Rattle.model.specs.Bytes.{noMate, sizeAt, kindAt, rankAt, mateAt, ownsAt, named, read, mateEntry, write}
-use Rattle.model.specs.Valid.{Valid}
+use Rattle.model.specs.State.{Rules, rules, GoodKind, State}
+use Rattle.model.specs.Bytes.{noMate, sizeAt, kindAt, rankAt, mateAt, ownsAt, named, read, mateEntry, fieldsOf, write}
+use Rattle.model.specs.Valid.{IsBytes, Valid}
 use Rattle.model.proofs.Tests.{eq?, le?, bool-ext, eqb-yes, eqb-no, leb-yes, leb-no, and-left, and-right}
-use Rattle.model.proofs.Fields.{size-write, kind-write, rank-write, mate-write, owns-write}
-use Rattle.model.proofs.Limits.{mateEntry-free, mateEntry-mate, size-few, mate-past, mate-inside}
+use Rattle.model.proofs.Fields.{size-write, kind-write, rank-write, mate-write, owns-write, image-bytes}
+use Rattle.model.proofs.Limits.{edges-fit, mateEntry-free, mateEntry-mate, size-few, mate-past, mate-inside, phi-few, mateEntry-few}
 
 -- The mate that an entry names.
 pub named-free : (v m : ℕ) → m ≡ noMate → named v m ≡ v
@@ -117,3 +117,18 @@ module _ (R : Rules) (s : State) (good : GoodShape (s .kind .shape)) (ok : Valid
   read-write =
       read-back s good (size-few ok) (ok .inside) (ok .past) (mate-past ok)
       (λ v l. elim (eq? (s .mate v) v) [ inl e ↦ omega arith | inr d ↦ mate-inside ok v d ])
+
+-- a valid state is written as bytes
+pub valid-bytes : {s : State} → GoodKind (s .kind) → Valid (rules (s .kind)) s → IsBytes (write s)
+unfolding write fieldsOf
+valid-bytes {s} kind ok =
+    let good : GoodShape (s .kind .shape) = kind .shape in
+    image-bytes (fieldsOf s) good (record {
+      n = omega (arith, size-few ok, good .named);
+      edges = edges-fit s good (size-few ok);
+      growth = omega (arith, kind .range .most);
+      top = omega (arith, kind .range .room, good .ranks);
+      rank = λ v l. omega (arith, ok .ranks v, kind .range .room, good .ranks);
+      mate = λ v l. mateEntry-few ok good v;
+      phi = λ v j l k. omega (arith, phi-few ok v j, good .counts);
+    })
