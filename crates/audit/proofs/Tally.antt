@@ -173,7 +173,8 @@ share-add S bs v w x s t = elim (eq? (rankAt bs v) s) [
   | inr d ↦ omega (arith, share-other S bs v (w + 1) x s d, share-other S bs v w x s d, ends-other v w (rankAt bs v) x s d)
 ]
 
-pub share-skip : (S : Shape) (bs : List ℕ) (v p q x s : ℕ) → p ≤ q → ((j : ℕ) → p ≤ j → j < q → T (ownsAt S bs v j) → ⊥) → share S bs v p x s ≡ share S bs v q x s
+pub share-skip : (S : Shape) (bs : List ℕ) (v p q x s : ℕ) → p ≤ q → ((j : ℕ) → p ≤ j → j < q → T (ownsAt S bs v j) → ⊥)
+    → share S bs v p x s ≡ share S bs v q x s
 share-skip S bs v p q x s h none = elim (eq? (rankAt bs v) s) [
   | inl e ↦ omega (
     arith,

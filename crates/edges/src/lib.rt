@@ -69,7 +69,7 @@ pub fn drop_edge(rack: &mut [u8], a: usize, b: usize)
     count_edge(rack, a, b, j, false);
 }
 
-// "The search for a rise stops at the first level, from 3 downwards to one above both ends, that either end's count reaches. [..] If both
+// "The search for a rise stops at the first level, from [t] downwards to one above both ends, that either end's count reaches. [..] If both
 // reach it, the lower number rises.": a is the lower number. The counts above the top are 0, and reach no threshold.
 pub fn riser(rack: &[u8], a: usize, b: usize) -> Reached
     requires { ⌜ Held low (now rack) ⌝ }

@@ -2,7 +2,7 @@
 use mathlib.Core.Path.{_≡_, refl, sym, ap, _∙_, subst}
 use mathlib.Core.Logic.{_≢_}
 use mathlib.Core.List.{List}
-use Prim.Native.Nat.{ℕ, _<_}
+use Prim.Native.Nat.{ℕ}
 use Rattle.model.specs.Shape.{Shape, GoodShape}
 use Rattle.model.specs.Bytes.{rulesAt, read, write}
 use Rattle.model.specs.Valid.{IsBytes}

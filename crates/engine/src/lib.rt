@@ -1,7 +1,7 @@
 // The calls on a lent rack: making, a change, the audit and the queries. None has a `requires`: what a call cannot do it turns back,
 // with the first number that fits, and then every byte stays. Each contract names the definition that leaves one outcome.
 ghost use mathlib.Core.Path.{_≡_};
-ghost use Prim.Native.Nat.{ℕ, suc, _≤_};
+ghost use Prim.Native.Nat.{ℕ, _≤_};
 ghost use lib.Dec.{eqb};
 ghost use lib.IntN.{pos, predℤ};
 ghost use Rattle.model.specs.Shape.{low};

@@ -10,7 +10,7 @@ use lib.Dec.{ltb, eqb}
 use lib.ListN.{length, getD}
 use Rattle.model.specs.Shape.{Shape, GoodShape, ranksFrom, matesFrom, phisFrom, rowsFrom, rostersFrom, rackLength}
 use Rattle.model.specs.State.{rules, State, phi, edges}
-use Rattle.model.specs.Parts.{numAt, rowByte, byRows}
+use Rattle.model.specs.Parts.{numAt, byRows}
 use Rattle.model.specs.Bytes.{half, sizeAt, edgesAt, growthAt, topAt, kindAt, rulesAt, rankAt, mateAt, phiAt, ownsAt, rosterAt, Fields, roster, parts, upToTop, image, mateEntry, phiEntry, fieldsOf, write}
 use Rattle.model.specs.Valid.{IsBytes}
 use Rattle.model.proofs.Tests.{eq?}

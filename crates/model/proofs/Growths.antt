@@ -5,9 +5,9 @@ use mathlib.Core.List.{List, [], _∷_, map}
 use lib.ListN.{take, drop}
 use Rattle.model.specs.Counting.{sum, eachOnto, each}
 use Rattle.model.specs.Shape.{low, phisFrom}
-use Rattle.model.specs.Parts.{num, rowByte, bytesOf}
+use Rattle.model.specs.Parts.{num, bytesOf}
 use Rattle.model.specs.State.{lowKind, lowWith, edges, empty}
-use Rattle.model.specs.Bytes.{roster, upToTop, image, mateEntry, fieldsOf, write}
+use Rattle.model.specs.Bytes.{upToTop, image, mateEntry, fieldsOf, write}
 use Rattle.model.specs.Sound.{sizeGood, settingsGood}
 use Rattle.model.specs.Change.{Change}
 use Rattle.model.specs.Calls.{askedNumber}

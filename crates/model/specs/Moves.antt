@@ -120,11 +120,11 @@ fall i v r = let s = r .state in record {
   falls = suc (r .falls);
 }
 
--- "below i with a count at i of at least 4^i"
+-- "below i with a count at i of at least [g]^i"
 unfoldable pub due : Rules → ℕ → ℕ → State → Bool
 due R i w s = leb (s .rank w) i && leb (R .thr i) (phi s w i)
 
--- "the boards [..] are gone through by rising number; each one that is below i with a count at i of at least 4^i loses its mate if it
+-- "the boards [..] are gone through by rising number; each one that is below i with a count at i of at least [g]^i loses its mate if it
 -- has one, rises to i and draws"
 unfoldable pub scan : Rules → List ℕ → ℕ → List ℕ → Run → Run
 scan R words i [] r = r
@@ -135,7 +135,7 @@ unfoldable pub scanFrom : Rules → List ℕ → ℕ → ℕ → Run → Run
 scanFrom R words i v r = scan R words i (listed (r .state .owns v) (r .state .n)) r
 
 -- "Taking a waiting v at level i: v hands each owned link whose other end is also at level i to that end. Let k be its neighbours below i.
--- If k is at least 4^i, v draws. If not, v falls to i-1. Then the boards to which v owned links [..] are gone through"
+-- If k is at least [g]^i, v draws. If not, v falls to i-1. Then the boards to which v owned links [..] are gone through"
 unfoldable pub take : Rules → List ℕ → ℕ → ℕ → Run → Run
 take R words i v r =
     let q = handed i v r in

@@ -15,7 +15,7 @@ pub record Shape : Type 0 where
   -- how many of the bytes 6 and 7 are zero in every rack; the others hold what of the number of edges two bytes don't
   pub spare : ℕ
 
--- "n from 1 to 256", "a level from -1 to 3", "four bytes a board, its counts at 0, 1, 2, 3", "32 bytes a board, its row", "4 to 7: zero"
+-- "n from 1 to 256", "a level from -1 to 3", "four bytes a board, its counts at 0, 1, 2, 3", "32 bytes a board, its row", "6 and 7 stay zero"
 abbrev pub low : Shape
 low = record { most = 256; levels = 4; width = 1; row = 32; spare = 2 }
 

@@ -17,7 +17,7 @@ pub record Kind : Type 0 where
   pub growth : ℕ
   pub top : ℕ
 
--- "The threshold at j is g to the power j, levels stop at t"
+-- "The threshold at j is g to the power j, levels stop at t". In sentences of 01 that are quoted, [g] and [t] stand "for 4 and 3".
 abbrev pub rules : Kind → Rules
 rules K = record { top = K .top; thr = λ j. K .growth ^ j }
 
@@ -76,7 +76,7 @@ near s v j w = edge s v w && leb (s .rank w) j
 unfoldable pub below : State → ℕ → ℕ → ℕ
 below s v j = count (near s v j) (s .n)
 
--- "The count of board v at j (0 to 3) is the number of neighbours whose level is below j if j is above v's level, and otherwise 0."
+-- "The count of board v at j (0 to [t]) is the number of neighbours whose level is below j if j is above v's level, and otherwise 0."
 unfoldable pub phi : State → ℕ → ℕ → ℕ
 phi s v j = elim (leb (s .rank v) j) [ true ↦ below s v j | false ↦ 0 ]
 

@@ -6,10 +6,10 @@ use mathlib.Core.List.{List}
 use Prim.Native.Nat.{ℕ, suc, _+_, _-_, _*_, _≤_, _<_}
 use native.Mathlib.Numerals.{add-one}
 use native.Mathlib.Omega.{arith}
-use lib.Dec.{T, eqb, ltb, ltb→lt, lt→ltb}
+use lib.Dec.{T, eqb, ltb, lt→ltb}
 use lib.ListN.{length}
 use lib.Bits.{bitAnd, bitXor}
-use lib.Count.{ones, trailingZeros}
+use lib.Count.{trailingZeros}
 use Rattle.model.specs.Counting.{count}
 use Rattle.model.specs.State.{Kind, State}
 use Rattle.model.specs.Bytes.{image, write}
@@ -20,7 +20,7 @@ use Rattle.model.proofs.Counting.{count-none}
 use Rattle.model.proofs.Fields.{image-length}
 use Rattle.theory.proofs.Ownership.{out, back, rest, turned}
 use Rattle.bitset.specs.Words.{Rest}
-use Rattle.bitset.proofs.Words.{First, rest-first, rest-end, rest-count}
+use Rattle.bitset.proofs.Words.{First, rest-first, rest-end}
 use Rattle.bitset.proofs.Sets.{rest-and, rest-less, rest-ext}
 use Rattle.layout.specs.Setters.{Sized, own, setWord}
 use Rattle.moves.specs.Proper.{Proper}

@@ -2,12 +2,12 @@
 // definition's state, that of a step the same of an image whose counts are half adjusted.
 ghost use mathlib.Core.Path.{_≡_};
 ghost use mathlib.Core.Logic.{_≢_};
-ghost use Prim.Native.Nat.{ℕ, suc, _+_, _*_, _^_, _<_, _≤_};
+ghost use Prim.Native.Nat.{ℕ, suc, _+_, _*_, _<_, _≤_};
 ghost use lib.Dec.{T};
 ghost use Rattle.model.specs.Shape.{low};
 ghost use Rattle.model.specs.Counting.{count};
 ghost use Rattle.model.specs.State.{below, phi};
-ghost use Rattle.model.specs.Bytes.{growthAt, topAt, phiAt, image, fieldsOf, read, write};
+ghost use Rattle.model.specs.Bytes.{topAt, phiAt, image, fieldsOf, read, write};
 ghost use Rattle.model.specs.Moves.{part as parted, rise as risen, marry as paired, handOver};
 ghost use Rattle.model.proofs.Facts.{Says};
 ghost use Rattle.theory.specs.Handing.{handedOn};
@@ -180,15 +180,14 @@ pub fn rise(rack: &mut [u8], u: usize, i: usize)
     enter(rack, u, i);
 }
 
-// The counts at i of the vertices to which v owns an edge gain v, which falls below level i; whether they all stay below the threshold.
-fn raise_counts(rack: &mut [u8], v: usize, i: usize) -> bool
+// The counts at i of the vertices to which v owns an edge gain v, which falls below level i; whether they all stay below the bar.
+fn raise_counts(rack: &mut [u8], v: usize, i: usize, bar: u16) -> bool
     requires { ⌜ Held low (now rack) ⌝ }
     requires { ⌜ (v < read low (now rack) .n) × (read low (now rack) .rank v ≡ suc i) × (i ≤ topAt (now rack)) ⌝ }
     requires { ⌜ RowBelow i v (read low (now rack)) ⌝ }
     ensures { λ _. ⌜ now (rack .exit) ≡ image (withCounts (fieldsOf (read low (now (rack .entry)))) (raisedCounts (read low (now (rack .entry))) i v)) ⌝ }
-    ensures { λ r. ⌜ Says r ((w : ℕ) → T (read low (now (rack .entry)) .owns v w) → raisedCounts (read low (now (rack .entry))) i v w i < growthAt (now (rack .entry)) ^ i) ⌝ }
+    ensures { λ r. ⌜ Says r ((w : ℕ) → T (read low (now (rack .entry)) .owns v w) → raisedCounts (read low (now (rack .entry))) i v w i < bar) ⌝ }
 {
-    let bar = layout::settings::threshold(rack, i);
     let mut low = true;
     let mut at = layout::walk::first(rack, v);
     while at.rest != 0 {
@@ -203,16 +202,15 @@ fn raise_counts(rack: &mut [u8], v: usize, i: usize) -> bool
     low
 }
 
-// "v falls to i-1", once it owns edges to vertices below i alone, k of them; whether the counts at i of these vertices all stay below the
-// threshold.
-pub fn fall(rack: &mut [u8], v: usize, i: usize, k: usize) -> bool
+// "v falls to i-1", once it owns edges to vertices below i alone, k of them; whether their counts at i all stay below the bar.
+pub fn fall(rack: &mut [u8], v: usize, i: usize, k: usize, bar: u16) -> bool
     requires { ⌜ Held low (now rack) ⌝ }
     requires { ⌜ (v < read low (now rack) .n) × (read low (now rack) .rank v ≡ suc i) × (i ≤ topAt (now rack)) ⌝ }
     requires { ⌜ (RowBelow i v (read low (now rack))) × (k ≡ below (read low (now rack)) v i) ⌝ }
     ensures { λ _. ⌜ now (rack .exit) ≡ write (ranked v i (read low (now (rack .entry)))) ⌝ }
-    ensures { λ r. ⌜ Says r ((w : ℕ) → T (read low (now (rack .entry)) .owns v w) → phi (ranked v i (read low (now (rack .entry)))) w i < growthAt (now (rack .entry)) ^ i) ⌝ }
+    ensures { λ r. ⌜ Says r ((w : ℕ) → T (read low (now (rack .entry)) .owns v w) → phi (ranked v i (read low (now (rack .entry)))) w i < bar) ⌝ }
 {
-    let low = raise_counts(rack, v, i);
+    let low = raise_counts(rack, v, i, bar);
     layout::set_phi(rack, v, i, k as u8);
     layout::set_rank(rack, v, i as u8);
     low

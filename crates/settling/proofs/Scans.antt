@@ -1,15 +1,15 @@
 -- The scan's loop on bytes: it goes along v's row while the visits change it, and does what the definition does. Assumes nothing.
-use mathlib.Core.Path.{_≡_, refl, sym, _∙_, subst}
+use mathlib.Core.Path.{_≡_, refl, sym, ap, _∙_, subst}
 use mathlib.Core.Logic.{inl, inr}
 use mathlib.Core.Bool.{Bool}
 use mathlib.Core.List.{List}
-use Prim.Native.Nat.{ℕ, suc, _+_, _*_, _≤_, _<_}
+use Prim.Native.Nat.{ℕ, suc, _+_, _*_, _^_, _≤_, _<_}
 use native.Mathlib.Omega.{arith}
 use lib.Dec.{T}
 use lib.ListN.{length}
 use Rattle.model.specs.Shape.{Shape}
 use Rattle.model.specs.State.{Rules, State}
-use Rattle.model.specs.Bytes.{rulesAt, kindAt, topAt, ownsAt, read}
+use Rattle.model.specs.Bytes.{rulesAt, kindAt, growthAt, topAt, ownsAt, read}
 use Rattle.model.specs.Moves.{Run, scanFrom}
 use Rattle.model.proofs.Tests.{le?}
 use Rattle.theory.proofs.Loops.{scanUpto, scanFrom-loop}
@@ -120,17 +120,21 @@ module _ {S : Shape} {words : List ℕ} {i v : ℕ} {bs₀ places₀ : List ℕ}
       turn-left = over turn (here .after) (here .none)
 
       -- what the visit asks
-      pub scan-visits : {w : ℕ} → w ≡ placeOf (c .word) (c .rest) → t₀ .draws ≤ takeLimit S → length words ≤ takeLimit S
-          → (Held S bs × Ordered (read S bs)) × (((w < read S bs .n) × (i ≤ topAt bs)) × (HoldsWaiting places t (read S bs) × (t .draws ≤ drawLimit)))
+      pub scan-visits : {w bar : ℕ} → w ≡ placeOf (c .word) (c .rest) → bar ≡ growthAt bs₀ ^ i → t₀ .draws ≤ takeLimit S → length words ≤ takeLimit S
+          → (Held S bs × Ordered (read S bs)) × (((w < read S bs .n) × (i ≤ topAt bs) × (bar ≡ growthAt bs ^ i)) × (HoldsWaiting places t (read S bs) × (t .draws ≤ drawLimit)))
       unfolding done turn
-      scan-visits {w} e d lent =
+      scan-visits {w} {bar} e b d lent =
           let q : SameEdges (kindAt S bs₀) (read S bs₀) (done turn .state) = done-kept turn in
           let m = upto-room words i (rulesAt bs₀) (read S bs₀ .owns v) turn (running S bs₀ places₀ t₀) lent d in
-          subst (λ (s : State). (Held S bs × Ordered s) × (((w < s .n) × (i ≤ topAt bs)) × (HoldsWaiting places t s × (t .draws ≤ drawLimit))))
+          subst (λ (s : State). (Held S bs × Ordered s) × (((w < s .n) × (i ≤ topAt bs) × (bar ≡ growthAt bs ^ i)) × (HoldsWaiting places t s × (t .draws ≤ drawLimit))))
           (sym (done-reads turn turn-left)) (
             (done-held turn turn-left, q .ordered),
             (
-              (omega (arith, e, q .size, turn-inside), omega (arith, a .level, done-top turn turn-left)),
+              (
+                omega (arith, e, q .size, turn-inside),
+                omega (arith, a .level, done-top turn turn-left),
+                b ∙ sym (ap (λ (R : Rules). R .thr i) (done-rules turn turn-left)),
+              ),
               (turn-left .holds, omega (arith, turn-left .draws, turn-inside, held-few (a .held), held-good (a .held) .named)),
             ),
           )

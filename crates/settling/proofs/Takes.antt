@@ -75,15 +75,16 @@ module _ {S : Shape} {bs places : List ℕ} {t : Tally} {i v k : ℕ} {b places�
   pub handed-waits : HoldsWaitingBut v places′ t′ (read S b)
   handed-waits = subst (HoldsWaitingBut v places′ t′) (sym handed-read) handed-holds
 
-  pub handed-falls : Falling S b i v k
+  pub handed-falls : {bar : ℕ} → bar ≡ growthAt b ^ i → Falling S b i v k bar
   unfolding handOver
-  handed-falls = record {
+  handed-falls e = record {
     inside = omega (arith, a .inside, ap (λ (s : State). s .n) handed-read);
     free = ap (λ (s : State). s .mate v) handed-read ∙ a .free;
     rank = ap (λ (s : State). s .rank v) handed-read ∙ a .rank;
     level = omega (arith, a .level, handed-top);
     row = subst (RowBelow i v) (sym handed-read) handed-row;
     size = a .size ∙ ap (λ (s : State). below s v i) (sym handed-read);
+    barred = e;
   }
 
   pub handed-draws : growthAt bs ^ i ≤ k → t .draws ≤ drawLimit → Draws S b i v k places′ t′ (read S b)
@@ -120,10 +121,10 @@ module _ {S : Shape} {bs places : List ℕ} {t : Tally} {i v k : ℕ} {b places�
       (subst (λ (R : Rules). Left (scanFrom R words i v (fall i v (running S b places′ t′))) d places″ r) handed-rules c))
 
 -- v has fallen from level i and has joined the end of its new level: bs, places and t before, b, places′ and t′ after
-pub record Fallen (S : Shape) (bs places : List ℕ) (t : Tally) (i v k : ℕ) (b places′ : List ℕ) (t′ : Tally) : Type 0 where
+pub record Fallen (S : Shape) (bs places : List ℕ) (t : Tally) (i v k bar : ℕ) (b places′ : List ℕ) (t′ : Tally) : Type 0 where
   pub held : Held S bs
   pub ordered : Ordered (read S bs)
-  pub falls : Falling S bs i v k
+  pub falls : Falling S bs i v k bar
   pub holds : HoldsWaitingBut v places t (read S bs)
   pub joined : Requeued (joinQueue v i (queueIn places t)) t places′ t′
   pub long : length places′ ≡ length places
@@ -141,10 +142,11 @@ upto-quiet R words i p (suc m) r h =
     ]
 
 -- what the scan after a fall asks
-abbrev pub Scans : Shape → List ℕ → ℕ → ℕ → List ℕ → Tally → State → Type 0
-Scans S b i v places t s = (Held S b × Ordered s) × (((v < s .n) × (i ≤ topAt b) × RowBelow i v s) × (HoldsWaiting places t s × (t .draws ≤ takeLimit S)))
+abbrev pub Scans : Shape → List ℕ → ℕ → ℕ → ℕ → List ℕ → Tally → State → Type 0
+Scans S b i v bar places t s =
+    (Held S b × Ordered s) × (((v < s .n) × (i ≤ topAt b) × RowBelow i v s × (bar ≡ growthAt b ^ i)) × (HoldsWaiting places t s × (t .draws ≤ takeLimit S)))
 
-module _ {S : Shape} {bs places : List ℕ} {t : Tally} {i v k : ℕ} {b places′ : List ℕ} {t′ : Tally} (a : Fallen S bs places t i v k b places′ t′) where
+module _ {S : Shape} {bs places : List ℕ} {t : Tally} {i v k bar : ℕ} {b places′ : List ℕ} {t′ : Tally} (a : Fallen S bs places t i v k bar b places′ t′) where
   fallen-kept : SameEdges (kindAt S bs) (read S bs) (ranked v i (read S bs))
   fallen-kept = fall-kept (read S bs) (a .held .proper) (a .ordered) i v (a .falls .inside) (a .falls .rank) (a .falls .row)
 
@@ -158,15 +160,16 @@ module _ {S : Shape} {bs places : List ℕ} {t : Tally} {i v k : ℕ} {b places�
   fallen-rules : rulesAt b ≡ rulesAt bs
   fallen-rules = rules-as b (ranked v i (read S bs)) (a .bytes) (fallen-kept .proper)
 
-  pub fallen-scans : t .draws ≤ takeLimit S → Scans S b i v places′ t′ (read S b)
+  pub fallen-scans : t .draws ≤ takeLimit S → Scans S b i v bar places′ t′ (read S b)
   fallen-scans x =
-      subst (Scans S b i v places′ t′) (sym fallen-read) (
+      subst (Scans S b i v bar places′ t′) (sym fallen-read) (
         (held-of b (ranked v i (read S bs)) (a .bytes) (fallen-kept .proper), fallen-kept .ordered),
         (
           (
             omega (arith, fallen-kept .size, a .falls .inside),
             omega (arith, a .falls .level, fallen-top),
             ranked-row (read S bs) (a .held .proper) i v i (a .falls .row),
+            a .falls .barred ∙ sym (ap (λ (R : Rules). R .thr i) fallen-rules),
           ),
           (fallen-holds t′ (a .long) (a .holds) i (a .joined .is) (a .falls .inside) (a .falls .free), omega (arith, a .joined .draws)),
         ),
@@ -190,11 +193,11 @@ module _ {S : Shape} {bs places : List ℕ} {t : Tally} {i v k : ℕ} {b places�
         left-same (scanFrom-same (rulesAt bs) words i v fallen-run) (subst (λ (R : Rules). Left (scanFrom R words i v (running S b places′ t′)) d places″ r) fallen-rules c)
 
     -- all counts at i are below the threshold: nobody rises
-    pub fallen-low : (words : List ℕ) → ((w : ℕ) → T (read S bs .owns v w) → phi (ranked v i (read S bs)) w i < growthAt bs ^ i) → t .draws ≤ takeLimit S
+    pub fallen-low : (words : List ℕ) → ((w : ℕ) → T (read S bs .owns v w) → phi (ranked v i (read S bs)) w i < bar) → t .draws ≤ takeLimit S
         → Left (scanFrom (rulesAt bs) words i v (fall i v (running S bs places t₀))) b places′ t′
     unfolding fall ranked
     fallen-low words low x =
         let g = fallen-scans x in
         let r : Run = fall i v (running S bs places t₀) in
-        rw (scanFrom-loop (rulesAt bs) words i v r ∙ upto-quiet (rulesAt bs) words i (read S bs .owns v) (read S bs .n) r (λ w o u. omega (arith, low w o, due-reached (rulesAt bs) i w (r .state) u)))
+        rw (scanFrom-loop (rulesAt bs) words i v r ∙ upto-quiet (rulesAt bs) words i (read S bs .owns v) (read S bs .n) r (λ w o u. omega (arith, low w o, a .falls .barred, due-reached (rulesAt bs) i w (r .state) u)))
         (left-same fallen-run (record { rack = g .0 .0 .written; queues = refl; draws = refl; falls = refl; holds = g .1 .1 .0 }))

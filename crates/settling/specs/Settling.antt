@@ -4,12 +4,12 @@ use mathlib.Core.Path.{_≡_}
 use mathlib.Core.Logic.{_≢_}
 use mathlib.Core.Bool.{true, false}
 use mathlib.Core.List.{List, []}
-use Prim.Native.Nat.{ℕ, suc, _-_, _≤_, _<_}
+use Prim.Native.Nat.{ℕ, suc, _-_, _^_, _≤_, _<_}
 use lib.ListN.{length, take}
 use Rattle.model.specs.Lists.{Mem, Distinct, Lists}
 use Rattle.model.specs.Shape.{Shape}
 use Rattle.model.specs.State.{Rules, State, below}
-use Rattle.model.specs.Bytes.{topAt, read, write}
+use Rattle.model.specs.Bytes.{growthAt, topAt, read, write}
 use Rattle.model.specs.Moves.{Run, due, promote, Found, none, found}
 use Rattle.theory.specs.Waiting.{marks, Waits, Paired, queuesIn}
 use Rattle.moves.specs.Proper.{RowBelow}
@@ -60,14 +60,15 @@ pub record QueueIs (l places : List ℕ) (k : ℕ) : Type 0 where
   pub queue : take k places ≡ l
   pub within : k ≤ length places
 
--- v, which is free, can fall from level i: it owns edges to vertices below i alone, k of them
-pub record Falling (S : Shape) (bs : List ℕ) (i v k : ℕ) : Type 0 where
+-- v, which is free, can fall from level i, whose threshold is the bar: it owns edges to vertices below i alone, k of them
+pub record Falling (S : Shape) (bs : List ℕ) (i v k bar : ℕ) : Type 0 where
   pub inside : v < read S bs .n
   pub free : read S bs .mate v ≡ v
   pub rank : read S bs .rank v ≡ suc i
   pub level : i ≤ topAt bs
   pub row : RowBelow i v (read S bs)
   pub size : k ≡ below (read S bs) v i
+  pub barred : bar ≡ growthAt bs ^ i
 
 -- The largest figures that are held: of draws in eight bytes, since no call limits a word list, of falls in four. So far may a figure have come for
 -- one draw or fall more to be counted, and so far the draws for a whole taking, which draws at most once for each vertex and once more.

@@ -2,12 +2,12 @@
 // of the vertices that wait, in the order of their arrival: the queue of a level is what it has of that level.
 ghost use mathlib.Core.Path.{_≡_};
 ghost use mathlib.Core.List.{[], _∷_, _++_};
-ghost use Prim.Native.Nat.{suc, _<_, _≤_};
+ghost use Prim.Native.Nat.{suc, _^_, _<_, _≤_};
 ghost use lib.ListN.{length, take as front};
 ghost use Rattle.model.specs.Shape.{low};
 ghost use Rattle.model.specs.Lists.{All, Mem, Distinct};
 ghost use Rattle.model.specs.State.{below};
-ghost use Rattle.model.specs.Bytes.{topAt, rulesAt, read, write};
+ghost use Rattle.model.specs.Bytes.{growthAt, topAt, rulesAt, read, write};
 ghost use Rattle.model.specs.Moves.{part as parted, rise as risen, draw as drawn, promote as promoted, without, fall as fallen, scanFrom, take as taken, pick as picked, settle as settled};
 ghost use Rattle.theory.specs.Waiting.{marks, queuesIn, joinQueue, partQueue};
 ghost use Rattle.moves.specs.Proper.{Ordered, Held, RowBelow};
@@ -122,17 +122,18 @@ fn visit(
     words: &[u32],
     w: usize,
     i: usize,
+    bar: u16,
     tally: Tally,
 ) -> Tally
     requires { ⌜ (Held low (now rack)) × (Ordered (read low (now rack))) ⌝ }
-    requires { ⌜ (w < read low (now rack) .n) × (i ≤ topAt (now rack)) ⌝ }
+    requires { ⌜ (w < read low (now rack) .n) × (i ≤ topAt (now rack)) × (bar ≡ growthAt (now rack) ^ i) ⌝ }
     requires { ⌜ (HoldsWaiting (now queue) tally (read low (now rack))) × (tally .draws ≤ drawLimit) ⌝ }
     ensures { λ r. ⌜ Left (visited (rulesAt (now (rack .entry))) (now (words .entry)) i w (running low (now (rack .entry)) (now (queue .entry)) tally)) (now (rack .exit)) (now (queue .exit)) r ⌝ }
 {
     if i < layout::rank(rack, w) as usize {
         return tally;
     }
-    if (layout::phi(rack, w, i) as u16) < layout::settings::threshold(rack, i) {
+    if (layout::phi(rack, w, i) as u16) < bar {
         return tally;
     }
     promote(rack, queue, words, w, i, tally)
@@ -146,10 +147,11 @@ fn scan(
     words: &[u32],
     v: usize,
     i: usize,
+    bar: u16,
     tally: Tally,
 ) -> Tally
     requires { ⌜ (Held low (now rack)) × (Ordered (read low (now rack))) ⌝ }
-    requires { ⌜ (v < read low (now rack) .n) × (i ≤ topAt (now rack)) × (RowBelow i v (read low (now rack))) ⌝ }
+    requires { ⌜ (v < read low (now rack) .n) × (i ≤ topAt (now rack)) × (RowBelow i v (read low (now rack))) × (bar ≡ growthAt (now rack) ^ i) ⌝ }
     requires { ⌜ (HoldsWaiting (now queue) tally (read low (now rack))) × (tally .draws ≤ takeLimit low) ⌝ }
     ensures { λ r. ⌜ Left (scanFrom (rulesAt (now (rack .entry))) (now (words .entry)) i v (running low (now (rack .entry)) (now (queue .entry)) tally)) (now (rack .exit)) (now (queue .exit)) r ⌝ }
 {
@@ -157,7 +159,7 @@ fn scan(
     let mut at = layout::walk::first(rack, v);
     while at.rest != 0 {
         let w = layout::walk::place(at.word, at.rest);
-        t = visit(rack, queue, words, w, i, t);
+        t = visit(rack, queue, words, w, i, bar, t);
         at = layout::walk::next(rack, v, at);
     }
     t
@@ -183,21 +185,22 @@ fn fall(
     v: usize,
     i: usize,
     k: usize,
+    bar: u16,
     tally: Tally,
 ) -> Tally
     requires { ⌜ (Held low (now rack)) × (Ordered (read low (now rack))) ⌝ }
-    requires { ⌜ Falling low (now rack) i v k ⌝ }
+    requires { ⌜ Falling low (now rack) i v k bar ⌝ }
     requires { ⌜ (HoldsWaitingBut v (now queue) tally (read low (now rack))) × (Room (takeLimit low) fallLimit tally) ⌝ }
     ensures { λ r. ⌜ Left (scanFrom (rulesAt (now (rack .entry))) (now (words .entry)) i v (fallen i v (running low (now (rack .entry)) (now (queue .entry)) tally))) (now (rack .exit)) (now (queue .exit)) r ⌝ }
 {
-    let low = moves::fall(rack, v, i, k);
+    let low = moves::fall(rack, v, i, k, bar);
     let fell = tally.fell();
     let waiting = rejoin(queue, v, i, fell.waiting);
     let t = fell.waits(waiting);
     if low {
         return t;
     }
-    scan(rack, queue, words, v, i, t)
+    scan(rack, queue, words, v, i, bar, t)
 }
 
 // "Taking a waiting v at level i"
@@ -217,10 +220,11 @@ fn take(
     let waiting = leave(queue, v, tally.waiting);
     let t = tally.waits(waiting);
     let k = moves::hand_over(rack, v, i).below;
-    if layout::settings::threshold(rack, i) as usize <= k {
+    let bar = layout::settings::threshold(rack, i);
+    if bar as usize <= k {
         return draw(rack, queue, words, v, i, k, t);
     }
-    fall(rack, queue, words, v, i, k, t)
+    fall(rack, queue, words, v, i, k, bar, t)
 }
 
 // "Among waiting boards of the highest level, the one that has waited at that level longest is taken": of the highest rank in a queue of k

@@ -1,6 +1,6 @@
 -- Demand 3: one theorem over every list of changes, refused ones among them, the empty list too, from any sound rack. The statement is
 -- `Demand` (specs/Demand.antt). Assumes nothing.
-use mathlib.Core.Path.{_≡_, refl, sym, ap, _∙_, subst}
+use mathlib.Core.Path.{_≡_, sym, ap, _∙_, subst}
 use mathlib.Core.List.{List, [], _∷_}
 use Prim.Native.Nat.{ℕ, suc, _*_}
 use native.Mathlib.Omega.{arith}

@@ -11,6 +11,7 @@ use crate::rack_part::wrong_buffers;
 use crate::racks::{self, Kind};
 use crate::starts::{List, Start, LISTS, LISTS_OF_EACH, STARTS};
 use crate::{stars, Verdict};
+use reference::checks::ladders;
 use reference::checks::random::Random;
 use reference::checks::shortage::runs_out;
 use reference::{Rack, Settings};
@@ -38,6 +39,7 @@ pub fn all() -> Verdict {
     }
     whole.add("from fans", &from_fans()?);
     whole.add("from lifts of all settings", &from_lifts()?);
+    whole.add("from ladders of all settings", &from_ladders()?);
     whole.add("from stars of all settings", &from_stars()?);
     whole.add("from full hubs of all settings", &from_hubs()?);
     stars::all()?;
@@ -195,6 +197,21 @@ fn from_lifts() -> Result<Tally, String> {
             let (twin, asked) = lift(one, fewer);
             opened(&mut random, twin, &asked, 2, &mut tally).map_err(told)?;
         }
+    }
+    Ok(tally)
+}
+
+/// Adds by which several levels are reached at once.
+fn from_ladders() -> Result<Tally, String> {
+    let mut tally = Tally::new();
+    for (place, case) in (0..).zip(ladders::cases()) {
+        let Rack { n, settings, .. } = case.rack;
+        let told = |why| format!("ladder of {n} boards, {settings:?}, {why}");
+        let mut random = Random::new(0x1f00_0000 + place);
+        let (code, a, b) = case.change;
+        let words = case.words.clone();
+        let asked = Asked { code, a, b, words };
+        opened(&mut random, Twin::start(case.rack), &asked, 2, &mut tally).map_err(told)?;
     }
     Ok(tally)
 }

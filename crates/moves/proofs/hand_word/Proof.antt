@@ -12,7 +12,6 @@ use Rattle.model.specs.Counting.{count}
 use Rattle.model.specs.Shape.{low}
 use Rattle.model.specs.State.{State}
 use Rattle.model.specs.Bytes.{rosterAt, read, write}
-use Rattle.model.proofs.Counting.{count-bound}
 use Rattle.bitset.specs.Words.{Rest}
 use Rattle.bitset.proofs.Words.{dropped-less, rest-count}
 use Rattle.bitset.proofs.Sets.{rest-ext}

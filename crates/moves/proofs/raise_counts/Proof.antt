@@ -1,8 +1,8 @@
 -- `moves::raise_counts` meets its contract. The loop's invariant: the vertices of v's row that the walk has passed have their new counts, and
--- `low` says that these are below the threshold. Assumes nothing.
-use mathlib.Core.Path.{subst, _≡_}
+-- `low` says that these are below the bar. Assumes nothing.
+use mathlib.Core.Path.{_≡_}
 use mathlib.Core.Logic.{⊎-elim}
-use Prim.Native.Nat.{ℕ, _+_, _-_, _<_}
+use Prim.Native.Nat.{_+_, _-_, _<_}
 use native.Mathlib.Omega.{arith}
 use lib.Dec.{T}
 use Rattle.model.specs.Counting.{upd}
@@ -13,7 +13,7 @@ use Rattle.model.proofs.Facts.{Says}
 use Rattle.layout.specs.Setters.{Sized}
 use Rattle.layout.proofs.Said.{says-is}
 use Rattle.moves.specs.Counts.{raisedCounts}
-use Rattle.moves.proofs.Held.{held-range, held-room, held-sized}
+use Rattle.moves.proofs.Held.{held-room, held-sized}
 use Rattle.moves.proofs.Recount.{raised-fits}
 use Rattle.model.proofs.Shapes.{low-good}
 use Rattle.layout.proofs.Walks.{row-whole}
@@ -39,7 +39,7 @@ walk d = record {
 
 -- where the function begins
 abbrev begin : tie.At-loop Inv-loop μ-loop → tie.Start Inv-loop μ-loop
-begin at = at .before .before .before .before .before .before
+begin at = at .before .before .before .before
 
 -- the loop, seen from a turn that has its place
 abbrev turn : tie.After-place Inv-loop μ-loop → tie.At-loop Inv-loop μ-loop
@@ -94,7 +94,7 @@ turned c =
 -- after either branch `low` speaks of w too
 lows : (c : tie.After-next Inv-loop μ-loop)
     → let at = turn (c .before .before .before .before .before .before .before .before .before) in
-    let a = begin at .args in Says (c .before .before .if2 .low) (LowTo (at .before .before .before .threshold .result) (state at) (a .i) (a .v) (reached (low .most) (c .next .result)))
+    let a = begin at .args in Says (c .before .before .if2 .low) (LowTo (a .bar) (state at) (a .i) (a .v) (reached (low .most) (c .next .result)))
 lows c =
     let put = c .before .before .before .before .before in
     let got = put .before .before in
@@ -102,29 +102,23 @@ lows c =
     let at = turn p in
     let a = begin at .args in
     let w = p .place .result in
-    let bar = at .before .before .before .threshold .result in
     let r = raised got in
     let next = came-next (walk (begin at)) (at .loop .inv .0) (some (p .before)) (p .place .ensures) (turned put) (c .next .ensures) in
     ⊎-elim
-    (λ k. says-is (k .1) (low-no bar (state at) (a .i) (a .v) (reached (low .most) (at .loop .at)) w (place p) (at .loop .inv .1) next (owned p)
+    (λ k. says-is (k .1) (low-no (a .bar) (state at) (a .i) (a .v) (reached (low .most) (at .loop .at)) w (place p) (at .loop .inv .1) next (owned p)
     (omega (arith, k .0 .taken))))
-    (λ k. says-is (k .1) (low-yes bar (state at) (a .i) (a .v) (reached (low .most) (at .loop .at)) w (place p) (at .loop .inv .1) next
+    (λ k. says-is (k .1) (low-yes (a .bar) (state at) (a .i) (a .v) (reached (low .most) (at .loop .at)) w (place p) (at .loop .inv .1) next
     (omega (arith, k .0 .left))))
     (c .before .before .if2 .came)
 
-threshold-requires : tie.Need-threshold-requires Inv-loop μ-loop
-threshold-requires c κs =
-    let d = c .before .before in
-    (held-sized (d .pre .0), (held-range (d .pre .0), omega (arith, held-room (d .pre .0), d .pre .1 .0 .2)))
-
 first-requires : tie.Need-first-requires Inv-loop μ-loop
-first-requires c κs = let d = c .before .before .before .before in (held-sized (d .pre .0), u-small (walk d))
+first-requires c κs = let d = c .before .before in (held-sized (d .pre .0), u-small (walk d))
 
 loop-holds : tie.Need-loop-holds Inv-loop μ-loop
 loop-holds c =
-    let d = c .before .before .before .before .before in
+    let d = c .before .before .before in
     let a = d .args in
-    (row-starts (walk d) (c .first .ensures), low-start (c .before .before .threshold .result) (read low (a .rack .now)) (a .i) (a .v) (came-first (walk d) (c .first .ensures)))
+    (row-starts (walk d) (c .first .ensures), low-start (a .bar) (read low (a .rack .now)) (a .i) (a .v) (came-first (walk d) (c .first .ensures)))
 
 place-requires : tie.Need-place-requires Inv-loop μ-loop
 place-requires c κs = (some c, c .before .before .loop .inv .0 .here (some c) .inside)
@@ -177,11 +171,7 @@ returns c =
     let at = c .before .before in
     let d = begin at in
     let l = at .loop in
-    let bar = at .before .before .before .threshold in
-    let under = low-end (bar .result) (state at) (d .pre .0 .proper) (d .args .i) (d .args .v) (l .at) (c .if1 .left) (l .inv .1) in (
-      row-ends (walk d) (l .inv .0) (c .if1 .left),
-      subst (λ (x : ℕ). Says (l .low) ((w : ℕ) → T (state at .owns (d .args .v) w) → raisedCounts (state at) (d .args .i) (d .args .v) w (d .args .i) < x)) (bar .ensures) under,
-    )
+    (row-ends (walk d) (l .inv .0) (c .if1 .left), low-end (d .args .bar) (state at) (d .pre .0 .proper) (d .args .i) (d .args .v) (l .at) (c .if1 .left) (l .inv .1))
 
 pub raise-counts-spec : {M : Type 1} → statement M
 raise-counts-spec =
@@ -189,7 +179,6 @@ raise-counts-spec =
     (tie.spec
     Inv-loop
     μ-loop
-    threshold-requires
     first-requires
     loop-holds
     place-requires

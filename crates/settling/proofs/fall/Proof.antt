@@ -53,7 +53,7 @@ lower c = rejoined c .before .before
 fallen : (c : tie.After-waits) →
     let f = down (lower c) in
     let a = start f .args in
-    Fallen low (a .rack .now) (a .queue .now) (lower c .fell .result) (a .i) (a .v) (a .k) (f .fall .last .0) (rejoined c .rejoin .last .0) (c .waits .result)
+    Fallen low (a .rack .now) (a .queue .now) (lower c .fell .result) (a .i) (a .v) (a .k) (a .bar) (f .fall .last .0) (rejoined c .rejoin .last .0) (c .waits .result)
 fallen c =
     let f = down (lower c) in
     let s = start f in

@@ -13,10 +13,10 @@ use Rattle.settling.proofs.scan.Statement.{statement}
 use Rattle.settling.proofs.scan.Tie as tie
 
 abbrev Inv-loop : tie.InvT-loop
-Inv-loop rack₀ queue₀ words v i t₀ at₀ rack queue t at = Scanning low words i v rack₀ queue₀ t₀ rack queue t at
+Inv-loop rack₀ queue₀ words v i bar t₀ at₀ rack queue t at = Scanning low words i v rack₀ queue₀ t₀ rack queue t at
 
 abbrev μ-loop : tie.MeasureT-loop
-μ-loop rack₀ queue₀ words v i t₀ at₀ rack queue t at = low .most - reached (low .most) at
+μ-loop rack₀ queue₀ words v i bar t₀ at₀ rack queue t at = low .most - reached (low .most) at
 
 begun : (c : tie.Start Inv-loop μ-loop) → ScanFrom low (c .args .words .now) (c .args .i) (c .args .v) (c .args .rack .now) (c .args .queue .now) (c .args .tally)
 begun c = record { held = c .pre .0 .0; ordered = c .pre .0 .1; inside = c .pre .1 .0 .0; level = c .pre .1 .0 .1; row = c .pre .1 .0 .2 }
@@ -50,7 +50,7 @@ visit-requires : tie.Need-visit-requires Inv-loop μ-loop
 visit-requires c κs =
     let p = c .before .before in
     let l = loop (p .before) in
-    scan-visits (begun (start l)) (l .loop .inv) (some (p .before)) (p .place .ensures) (start l .pre .1 .1 .1)
+    scan-visits (begun (start l)) (l .loop .inv) (some (p .before)) (p .place .ensures) (start l .pre .1 .0 .3) (start l .pre .1 .1 .1)
     (omega (arith, start l .good .1 .1 .0 .1))
 
 next-requires : tie.Need-next-requires Inv-loop μ-loop

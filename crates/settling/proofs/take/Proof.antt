@@ -1,5 +1,5 @@
 -- `settling::take` meets its contract. Assumes nothing.
-use mathlib.Core.Path.{_≡_, ap, _∙_}
+use mathlib.Core.Path.{_≡_, refl, ap, _∙_}
 use Prim.Native.Nat.{ℕ, _≤_, _<_, _^_}
 use native.Mathlib.Omega.{arith}
 use borrow.Author.Needs.{needs}
@@ -76,7 +76,7 @@ hand-over-requires c κs = search needs
 threshold-requires : tie.Need-threshold-requires
 threshold-requires c κs =
     let h = handed-held (handed (c .before .before .before)) .0 in
-    (held-sized h, (held-range h, omega (arith, held-room h, handed-falls (handed (c .before .before .before)) .level)))
+    (held-sized h, (held-range h, omega (arith, held-room h, handed-falls (handed (c .before .before .before)) refl .level)))
 
 cast-if1 : tie.Need-cast-if1
 cast-if1 c = search needs
@@ -104,7 +104,7 @@ fall-requires c κs =
     let e = c .before .before in
     let a = handed (after (e .before)) in
     let s = start (left (after (e .before))) in
-    (handed-held a, (handed-falls a, (handed-waits a, room-as (a .left) (s .pre .1 .1 .1))))
+    (handed-held a, (handed-falls a (e .before .threshold .ensures), (handed-waits a, room-as (a .left) (s .pre .1 .1 .1))))
 
 same-length-3 : tie.Need-same-length-3
 same-length-3 c = search needs

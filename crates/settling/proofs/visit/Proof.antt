@@ -5,7 +5,7 @@ use borrow.Author.Needs.{needs}
 use Rattle.model.specs.Shape.{low}
 use Rattle.model.specs.Bytes.{rulesAt, read}
 use Rattle.model.specs.Moves.{due}
-use Rattle.moves.proofs.Held.{proper-pos, held-range, held-sized, held-small}
+use Rattle.moves.proofs.Held.{proper-pos, held-sized, held-small}
 use Rattle.settling.proofs.Steps.{due-low}
 use Rattle.settling.proofs.Entries.{level-small}
 use Rattle.settling.proofs.Turns.{Visiting, turn-high, turn-few, turn-due, turn-passed, turn-promoted}
@@ -37,29 +37,24 @@ phi-requires c κs =
 cast-if2 : tie.Need-cast-if2
 cast-if2 c = search needs
 
-threshold-requires : tie.Need-threshold-requires
-threshold-requires c κs =
-    let a = visiting (c .before .before .before .before .before .before .before .before .before) in
-    (held-sized (a .held), (held-range (a .held), level-small (a .held) _ (a .level)))
-
 same-length-2 : tie.Need-same-length-2
 same-length-2 c = search needs
 
 returns-2 : tie.Need-returns-2
 returns-2 c =
-    let s = c .before .before .before .before .before .before .before .before .before .before .before in
+    let s = c .before .before .before .before .before .before .before .before .before in
     turn-passed (visiting s) (s .args .words .now) (s .args .tally) (s .pre .1 .1 .0)
-    (turn-few (visiting s) (omega (arith, c .before .threshold .ensures, c .before .before .before .phi .ensures)))
+    (turn-few (visiting s) (omega (arith, s .pre .1 .0 .2, c .before .phi .ensures)))
 
 -- both tests failed, so w is due
 abbrev start : tie.Else2 → tie.Start
-start c = c .before .before .before .before .before .before .before .before .before .before .before
+start c = c .before .before .before .before .before .before .before .before .before
 
 is-due : (c : tie.Else2) → T (due (rulesAt (start c .args .rack .now)) (start c .args .i) (start c .args .w) (read low (start c .args .rack .now)))
 is-due c =
     turn-due (visiting (start c))
-    (omega (arith, c .before .before .before .before .before .before .rank .ensures, c .before .before .before .before .before .if1 .left))
-    (omega (arith, c .before .threshold .ensures, c .before .before .before .phi .ensures, c .if2 .left))
+    (omega (arith, c .before .before .before .before .rank .ensures, c .before .before .before .if1 .left))
+    (omega (arith, start c .pre .1 .0 .2, c .before .phi .ensures, c .if2 .left))
 
 promote-requires : tie.Need-promote-requires
 promote-requires c κs =
@@ -90,7 +85,6 @@ visit-spec =
     returns
     phi-requires
     cast-if2
-    threshold-requires
     same-length-2
     returns-2
     promote-requires

@@ -9,6 +9,7 @@ pub mod exact;
 pub mod facts;
 pub mod fair;
 pub mod fans;
+pub mod ladders;
 pub mod lifts;
 pub mod long_lines;
 pub mod makers;
@@ -153,7 +154,7 @@ pub fn holds(what: &str, yes: bool) -> Result<(), String> {
 }
 
 /// All checks in order.
-const CHECKS: [fn(&mut Tally) -> Verdict; 28] = [
+const CHECKS: [fn(&mut Tally) -> Verdict; 29] = [
     bench::worked_example,
     bench::bench_cases,
     cases::hand_worked,
@@ -165,6 +166,7 @@ const CHECKS: [fn(&mut Tally) -> Verdict; 28] = [
     fans::fans,
     settings::told_by_hand,
     lifts::every_rise,
+    ladders::every_ladder,
     lifts::every_hub,
     stars::every_fall,
     makings::making,

@@ -7,7 +7,7 @@ use lib.ListN.{length}
 use Rattle.model.specs.Shape.{low}
 use Rattle.model.proofs.Shapes.{low-good}
 use Rattle.bitset.specs.Words.{stored}
-use Rattle.layout.specs.Setters.{Sized, enrolled}
+use Rattle.layout.specs.Setters.{enrolled}
 use Rattle.layout.proofs.Cleared.{enrolled-length, enrolled-word, enrolled-all}
 use borrow.Author.Needs.{needs}
 use Rattle.layout.proofs.rosters.enroll.Statement.{statement}

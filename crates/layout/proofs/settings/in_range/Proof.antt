@@ -1,7 +1,7 @@
 -- `layout::settings::in_range` meets its contract: a test for each limit. Assumes nothing.
 use mathlib.Core.Path.{_≡_, refl, sym}
 use mathlib.Core.Bool.{false}
-use Prim.Native.Nat.{ℕ, _≤_, suc}
+use Prim.Native.Nat.{ℕ, _≤_}
 use native.Mathlib.Omega.{arith}
 use Rattle.model.specs.State.{lowWith, InRange, leastGrowth, mostGrowth}
 use lib.Dec.{ltb}

@@ -1,10 +1,8 @@
 -- `layout::settings::threshold` meets its contract: the power rule is one test over the whole table. Assumes nothing.
 use mathlib.Core.Path.{ap, _∙_}
-use mathlib.Core.List.{[]}
 use Prim.Native.Nat.{ℕ, _-_, _^_}
 use native.Mathlib.Omega.{arith}
-use lib.ListN.{getD}
-use Rattle.layout.proofs.Powers.{thresholds, power}
+use Rattle.layout.proofs.Powers.{power}
 use borrow.Author.Needs.{needs}
 use Rattle.layout.proofs.settings.threshold.Statement.{statement}
 use Rattle.layout.proofs.settings.threshold.Tie as tie

@@ -1,5 +1,4 @@
 -- `layout::unused::spare_zero` meets its contract: the spare bytes are one stretch. Assumes nothing.
-use Prim.Native.Nat.{_+_}
 use native.Mathlib.Omega.{arith}
 use Rattle.model.specs.Shape.{low}
 use Rattle.layout.proofs.Said.{says-by}

@@ -1,10 +1,9 @@
 -- `layout::words::below` meets its contract. Assumes nothing.
-use mathlib.Core.Path.{_≡_, sym, ap, _∙_}
-use Prim.Native.Nat.{ℕ, _+_, _-_, _*_, _≤_}
+use mathlib.Core.Path.{_∙_}
+use Prim.Native.Nat.{_+_, _-_, _*_}
 use native.Mathlib.Omega.{arith}
 use lib.Dec.{ltb, ltb→lt, lt→ltb}
-use Rattle.model.proofs.Tests.{T-false, bool-ext}
-use Rattle.bitset.specs.Words.{Rest}
+use Rattle.model.proofs.Tests.{bool-ext}
 use Rattle.bitset.proofs.Sets.{none-rest}
 use borrow.Author.Needs.{needs}
 use Rattle.layout.proofs.words.below.Statement.{statement}
