@@ -36,12 +36,12 @@ module _ (P : Setting) (E : Simple P.n P.edge) (pos : (j : ℕ) → 1 ≤ P.thr 
             let d' : T (due (rules P) i w r'.state) = subst T e d in
             let l' = due-low P E i w G'.fits d' in
             rw (scan-yes P words i w Q r d, scan-yes P words i w Q r' d')
-            (scan-same i Q (promote-same P E words i w S G.fits G'.fits l.0 l'.0)
+            (scan-same {r = promote words i w r} {r' = promote words i w r'} i Q (promote-same P E words i w S G.fits G'.fits l.0 l'.0)
             (promote-good P E pos words i w Q r G b l.0 l.1).good (promote-good P E pos words i w Q r' G' b l'.0 l'.1).good b)
         | inr d ↦
             let d' : T (due (rules P) i w r'.state) → ⊥ = λ h. d (subst T (sym e) h) in
             rw (scan-no P words i w Q r d, scan-no P words i w Q r' d')
-            (scan-same i Q S (passed-good P E pos words i w Q r G d) (passed-good P E pos words i w Q r' G' d') b)
+            (scan-same {r = r} {r' = r'} i Q S (passed-good P E pos words i w Q r G d) (passed-good P E pos words i w Q r' G' d') b)
       ]
 
   take_same : {r r' : Run} (i v : ℕ) → Same r r' → Good P (suc i) [] r → Good P (suc i) [] r' → r.state.mate v ≡ v → r.state.rank v ≡ suc i

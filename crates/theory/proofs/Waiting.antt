@@ -1,7 +1,7 @@
 -- The queue of all vertices that wait, through each move: a parting with or without a rise, a draw, a fall, and the parting of a drop. What
 -- else is known of the vertices in it is kept. Assumes nothing.
 use mathlib.Core.Path.{◌≡◌, refl, sym, ap, ◌∙◌, subst}
-use mathlib.Core.Logic.{◌≢◌, inl, inr}
+use mathlib.Core.Logic.{◌≢◌, ◌⊎◌, inl, inr}
 use mathlib.Core.List.{List, [], ◌∷◌}
 use Prim.Native.Nat.{ℕ, zero, suc, ◌≤◌, ◌<◌}
 use native.Mathlib.Omega.{arith}
@@ -43,7 +43,7 @@ module _ {n l w : ℕ} {s s₁ : Marks} (A : ℕ → Type 0) (I : Paired n s) (d
             (λ f. ne (subst (λ (y : ℕ). s.mate y ≡ y) f a.1.0)),
             (λ f. mate-mated I w ne (subst (λ (y : ℕ). s.mate y ≡ y) f a.1.0)),
           ) in
-          rw (joins-some z j all) (lists-as
+          rw (joins-some z j all) (lists-as {W = λ v. (Waits n s v × A v) ⊎ (v ≡ z)}
           (λ v x. elim x [
             | inl a ↦ let o = alone v a.0 in ((lift-waits n d o.0 o.1 a.0, a.1), o.0)
             | inr a ↦ subst (λ (y : ℕ). (Waits n s₁ y × A y) × (y ≢ w)) (sym a)
