@@ -1,0 +1,16 @@
+-- `drawing::decide` meets its contract. Assumes nothing.
+use mathlib.Core.Path.{◌≡◌, refl, sym, ◌∙◌}
+use Prim.Native.Nat.{◌-◌, ◌≤◌}
+use native.Mathlib.Omega.{arith}
+use lib.ListN.{length}
+use Rattle.model.specs.Words.{deciding}
+use Rattle.model.proofs.Deciding.{deciding-here, deciding-next, deciding-past, place_of, place-past}
+use borrow.Author.Rules.{rules}
+use Rattle.drawing.proofs.decide.Given as goal
+
+-- what decides is the same from the word at hand on
+abbrev pub invariant-loop-j : goal.invariant-loop-j
+invariant-loop-j l = deciding l.words l.used l.k ≡ deciding l.words l.j l.k
+
+abbrev pub decreases-loop-j : goal.decreases-loop-j
+decreases-loop-j l = length l.words - l.j

@@ -1,0 +1,30 @@
+-- `drawing::sure` meets its contract. Assumes nothing.
+use mathlib.Core.Logic.{⊎_elim}
+use Prim.Native.Nat.{◌-◌}
+use native.Mathlib.Omega.{arith}
+use borrow.Author.Rules.{rules}
+use Rattle.drawing.proofs.Certain.{NoneLarge, large-next, none-next, sure-of}
+use Rattle.drawing.proofs.sure.Goals as goal
+
+pub returns-then-words-h : goal.returns-then-words-h
+returns-then-words-h c = tt
+
+pub loop-j-init : goal.loop-j-init
+loop-j-init c = λ n i b. absurd (omega arith)
+
+pub bounds-words-j : goal.bounds-words-j
+bounds-words-j c = omega (arith, c.loop-j-test.true, c.if-words-h.false)
+
+pub loop-j-smaller : goal.loop-j-smaller
+loop-j-smaller c = omega (arith, c.loop-j-test.true)
+
+pub loop-j-preserved : goal.loop-j-preserved
+loop-j-preserved c = let words = c.args.words.now in
+    ⊎_elim
+    (λ w. large-next words _ w.1)
+    (λ w. none-next words (omega arith) c.loop-j.invariant (omega (arith, w.0.left)) w.1)
+    c.if-words-j-ge-SURE.branch
+
+pub returns : goal.returns
+returns c = let a = c.args in
+    sure-of a.words.now a.h c.loop-j.large (omega (arith, c.if-words-h.false)) (omega (arith, c.loop-j-test.false)) c.loop-j.invariant
