@@ -192,5 +192,6 @@ pub fn put_literal(out: &mut [u8], p: &[u8]) -> usize
     requires { length p.now ≤ length out.old }
     ensures { Put p.now out.old out.new result }
 {
-    bytes::copy(p, out)
+    out[..p.len()].copy_from_slice(p);
+    p.len()
 }

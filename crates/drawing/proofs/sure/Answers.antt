@@ -1,9 +1,9 @@
 -- `drawing::sure` meets its contract. Assumes nothing.
-use mathlib.Core.Logic.{⊎_elim}
 use Prim.Native.Nat.{◌-◌}
 use native.Mathlib.Omega.{arith}
 use borrow.Author.Rules.{rules}
 use Rattle.drawing.proofs.Certain.{NoneLarge, large-next, none-next, sure-of}
+use Rattle.drawing.proofs.sure.Goals.{then-words-j-ge-SURE, else-words-j-ge-SURE}
 use Rattle.drawing.proofs.sure.Goals as goal
 
 pub returns-then-words-h : goal.returns-then-words-h
@@ -19,11 +19,12 @@ pub loop-j-smaller : goal.loop-j-smaller
 loop-j-smaller c = omega (arith, c.loop-j-test.true)
 
 pub loop-j-preserved : goal.loop-j-preserved
-loop-j-preserved c = let words = c.args.words.now in
-    ⊎_elim
-    (λ w. large-next words _ w.1)
-    (λ w. none-next words (omega arith) c.loop-j.invariant (omega (arith, w.0.left)) w.1)
-    c.if-words-j-ge-SURE.branch
+loop-j-preserved c =
+    let words = c.args.words.now in
+    elim c.if-words-j-ge-SURE.branch [
+      | then-words-j-ge-SURE w ↦ large-next words _ w.large-is
+      | else-words-j-ge-SURE w ↦ none-next words (omega arith) c.loop-j.invariant (omega (arith, w.if-words-j-ge-SURE.false)) w.large-is
+    ]
 
 pub returns : goal.returns
 returns c = let a = c.args in

@@ -1,0 +1,9 @@
+-- `text::digit` meets its contract: a byte below the digits wraps to a number far above 9.
+-- Assumes nothing.
+use Rattle.std.proofs.Common.{arith, rules}
+use Rattle.text.proofs.Decimals.{digit-out}
+use Rattle.text.proofs.digit.Goals as goal
+
+pub returns : goal.returns
+returns c = let w = c.wrapping_sub_u32.ensures in
+    record { is = λ h. omega (arith, w); none = λ h. digit-out c.args.b (λ l. omega (arith, w)) }

@@ -1,0 +1,13 @@
+-- `text::literal_at` meets its contract. The invariant: the first k bytes of p stand at `at`.
+-- Assumes nothing.
+use Rattle.std.proofs.Common.{◌-◌, ◌≤◌, length, arith}
+use Rattle.text.specs.Literal.{Starts}
+use Rattle.text.proofs.Standing.{literal-start, literal-short}
+use Rattle.text.proofs.Fours.{four-turn, four-differs}
+use Rattle.text.proofs.literal_at.Given as goal
+
+abbrev pub invariant-loop-k : goal.invariant-loop-k
+invariant-loop-k l = (l.k ≤ length l.p) × Starts l.s l.at l.p l.k
+
+abbrev pub decreases-loop-k : goal.decreases-loop-k
+decreases-loop-k l = length l.p - l.k
