@@ -1,0 +1,19 @@
+-- `audit::rows::walk_row` meets its contract. The loop's invariant: the row is walked as far as word k. Assumes nothing.
+use mathlib.Core.Path.{◌≡◌, refl, ◌∙◌, subst}
+use Prim.Native.Nat.{ℕ, ◌+◌, ◌-◌, ◌*◌, ◌≤◌}
+use native.Mathlib.Omega.{arith}
+use lib.ListN.{length}
+use borrow.Author.Tests.{not-true, not-false}
+use Rattle.model.specs.Shape.{low}
+use Rattle.model.proofs.Tests.{true-T}
+use Rattle.layout.proofs.Said.{unsaid, says-yes, says-no}
+use Rattle.audit.specs.Parts.{Walked}
+use Rattle.audit.proofs.Walk.{walked_start, walked_end}
+use borrow.Author.Rules.{rules}
+use Rattle.audit.proofs.rows.walk_row.Given as goal
+
+abbrev pub invariant-loop-k : goal.invariant-loop-k
+invariant-loop-k l = (64 * l.k ≤ low.most) × ((length l.tally ≡ length l.initial.tally) × Walked low l.rack l.tally l.v (64 * l.k))
+
+abbrev pub decreases-loop-k : goal.decreases-loop-k
+decreases-loop-k l = low.most - 64 * l.k
