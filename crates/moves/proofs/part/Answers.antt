@@ -13,8 +13,7 @@ use Rattle.layout.specs.Setters.{set_mate}
 use Rattle.moves.specs.Proper.{Held}
 use Rattle.moves.proofs.Held.{held-sized, held-few, held-mate, held_small}
 use Rattle.moves.proofs.Pairs.{entry_free, entry-mate, part_free, part-image}
-use Rattle.moves.proofs.part.Statement.{statement}
-use Rattle.moves.proofs.part.Tie as tie
+use Rattle.moves.proofs.part.Goals as goal
 
 -- what the entry that was read says of v, and what the bytes are after both entries are set
 module _ {bs : List ℕ} (h : Held low bs) {v : ℕ} (l : v < (read low bs).n) {m : ℕ} (e : m ≡ mate_at low bs v) where
@@ -34,52 +33,18 @@ module _ {bs : List ℕ} (h : Held low bs) {v : ℕ} (l : v < (read low bs).n) {
   unfolding read
   parts d = ap₂ (λ (b : List ℕ) (x : ℕ). set_mate low (set_mate low b x no_mate) v no_mate) h.written (named d) ∙ part-image (read low bs) h.proper v l
 
-mate-requires : tie.Need-mate-requires
-mate-requires c κs =
-    let s = c.before.before in
-    (held-sized s.requires.0, held_small s.requires.0 s.args.v s.requires.1)
+pub mate-m-requires : goal.mate-m-requires
+mate-m-requires c = record { sized = held-sized c.requires.held; v_lt_most = held_small c.requires.held c.args.v c.requires.v_bound }
 
-same_length : tie.Need-same-length
-same_length c = search rules
+pub returns-then-m : goal.returns-then-m
+returns-then-m c = stays c.requires.held c.requires.v_bound c.mate-m.ensures c.if-m.true
 
-returns : tie.Need-returns
-returns c =
-    let s = c.before.before.before.before in
-    stays s.requires.0 s.requires.1 c.before.mate.ensures c.if1.true
+pub set_mate-requires : goal.set_mate-requires
+set_mate-requires c = record { sized = held-sized c.requires.held; v_lt_most = within c.requires.held c.requires.v_bound c.mate-m.ensures c.if-m.false }
 
-cast-set-mate : tie.Need-overflow-cast-set-mate
-cast-set-mate c = search rules
+pub set_mate-requires-2 : goal.set_mate-requires-2
+set_mate-requires-2 c = record { sized = c.set_mate.auto.rack ∙ held-sized c.requires.held; v_lt_most = held_small c.requires.held c.args.v c.requires.v_bound }
 
-set-mate-requires : tie.Need-set-mate-requires
-set-mate-requires c κs =
-    let s = c.before.before.before.before.before in
-    (held-sized s.requires.0, within s.requires.0 s.requires.1 c.before.before.mate.ensures c.before.if1.false)
-
-set-mate-requires-2 : tie.Need-set-mate-requires-2
-set-mate-requires-2 c κs =
-    let s = c.before.before.before.before.before.before.before.before.before in
-    (c.before.before.before.set-mate.auto.0 ∙ held-sized s.requires.0, held_small s.requires.0 s.args.v s.requires.1)
-
-same-length-2 : tie.Need-same-length-2
-same-length-2 c = search rules
-
-returns-2 : tie.Need-returns-2
-returns-2 c =
-    let once = c.before.before.before.before.before.before in
-    let mated = once.before.before in
-    let s = mated.before.before.before.before in
-    c.before.before.set-mate2.ensures ∙ ap (λ (bs : List ℕ). set_mate low bs s.args.v no_mate) once.set-mate.ensures
-    ∙ parts s.requires.0 s.requires.1 mated.before.mate.ensures mated.if1.false
-
-pub part-spec : {M : Type 1} → statement M
-part-spec =
-    tie.close
-    (tie.spec
-    mate-requires
-    same_length
-    returns
-    cast-set-mate
-    set-mate-requires
-    set-mate-requires-2
-    same-length-2
-    returns-2)
+pub returns : goal.returns
+returns c = c.set_mate-2.ensures ∙ ap (λ (bs : List ℕ). set_mate low bs c.args.v no_mate) c.set_mate.ensures
+    ∙ parts c.requires.held c.requires.v_bound c.mate-m.ensures c.if-m.false

@@ -1,0 +1,156 @@
+-- `moves::lower_counts` meets its contract. The loop's invariant: the vertices of u's row that the walk has passed have their new counts.
+-- Assumes nothing.
+use mathlib.Core.Path.{◌≡◌, ◌∙◌}
+use mathlib.Core.Logic.{⊎_elim}
+use Prim.Native.Nat.{ℕ, ◌-◌, ◌≤◌, ◌<◌}
+use native.Mathlib.Omega.{arith}
+use lib.Dec.{T}
+use borrow.Author.Rules.{rules}
+use Rattle.model.specs.Counting.{upd}
+use Rattle.model.specs.Shape.{low}
+use Rattle.model.specs.State.{State}
+use Rattle.model.specs.Bytes.{phi_at, read}
+use Rattle.layout.specs.Setters.{Sized}
+use Rattle.moves.specs.Counts.{hit, lowered_counts}
+use Rattle.moves.proofs.Held.{held-room, held-sized, held_small, held-rank}
+use Rattle.moves.proofs.Recount.{hit-counted}
+use Rattle.moves.proofs.Choices.{hit-of}
+use Rattle.model.proofs.Shapes.{low-good}
+use Rattle.layout.proofs.Walks.{row-whole}
+use Rattle.layout.proofs.Reached.{reached, further-less}
+use Rattle.moves.proofs.CountWalk.{Counted, counted-sized, counted-rank, counted-phi, RowCounted, Walk, u-small, row-starts, w-reached, w-small, w-owned, w-sized, row-goes-on, row_ends, same_size, row_low, lowered-quiet, lowered-turn}
+use Rattle.moves.proofs.lower_counts.Goals.{After-place-w, After-rank-r, At-loop-at, In-loop-at, Joined-r-from, Start, else-r-from, then-r-from}
+use Rattle.moves.proofs.lower_counts.Goals as goal
+
+walk : (d : Start)
+    → Walk low d.args.rack.now (lowered_counts (read low d.args.rack.now) d.args.i d.args.u) d.args.u
+walk d = record {
+  held = d.requires.held;
+  inside = d.requires.u_bound.0;
+  quiet = lowered-quiet (read low d.args.rack.now) d.args.i d.args.u;
+}
+
+level : (at : At-loop-at) → at.args.i < low.levels
+level at = omega (arith, held-room at.requires.held, at.requires.u_bound.2)
+
+sized : (at : At-loop-at) → Sized low at.loop-at.rack
+sized at = w-sized (walk (goal.at.At-loop-at at).Start) at.loop-at.invariant
+
+abbrev state : At-loop-at → State
+state at = read low at.args.rack.now
+
+some : (c : In-loop-at) → 0 < c.loop-at.at.rest
+some c = omega (arith, c.loop-at-test.true)
+
+-- what holds in a turn
+place : (c : After-place-w) → c.place-w.result ≡ reached low.most c.loop-at.at
+place c = w-reached (walk (goal.at.After-place-w c).Start) c.loop-at.invariant (some (goal.at.After-place-w c).In-loop-at) c.place-w.ensures
+
+small : (c : After-place-w) → c.place-w.result < low.most
+small c = w-small (walk (goal.at.After-place-w c).Start) c.loop-at.invariant (some (goal.at.After-place-w c).In-loop-at) c.place-w.ensures
+
+owned : (c : After-place-w) → T ((state (goal.at.After-place-w c).At-loop-at).owns c.args.u c.place-w.result)
+owned c = w-owned (walk (goal.at.After-place-w c).Start) c.loop-at.invariant (some (goal.at.After-place-w c).In-loop-at) c.place-w.ensures
+
+from_is : (at : At-loop-at) → at.rank-from.result ≡ (state at).rank at.args.u
+from_is at =
+    at.rank-from.ensures ∙ held-rank at.requires.held at.args.u (u-small (walk (goal.at.At-loop-at at).Start))
+
+rank_is : (c : After-rank-r) → c.rank-r.result ≡ (state (goal.at.After-rank-r c).At-loop-at).rank c.place-w.result
+rank_is c =
+    let l = c.loop-at in
+    c.rank-r.ensures ∙ counted-rank (state (goal.at.After-rank-r c).At-loop-at) c.requires.held.proper l.invariant.counts l.rack l.invariant.is c.place-w.result (small (goal.at.After-rank-r c).After-place-w)
+
+rank-low : (c : After-place-w) → (state (goal.at.After-place-w c).At-loop-at).rank c.place-w.result ≤ c.args.i
+rank-low c =
+    row_low (state (goal.at.After-place-w c).At-loop-at) c.args.i c.args.u c.place-w.result c.requires.row_below (owned c)
+
+-- w's counts from both ranks up to i are at least 1
+counted : (c : After-place-w) (x : ℕ) → c.rank-from.result ≤ x
+    → (state (goal.at.After-place-w c).At-loop-at).rank c.place-w.result ≤ x → x ≤ c.args.i
+    → 1 ≤ phi_at low c.loop-at.rack c.place-w.result x
+counted c x p q r =
+    let a = c.args in
+    let l = c.loop-at in
+    let s = state (goal.at.After-place-w c).At-loop-at in
+    let w = c.place-w.result in
+    let there : T (hit s a.i a.u w x) = hit-of s a.i a.u w x (owned c) (omega (arith, from_is (goal.at.After-place-w c).At-loop-at)) q r in
+    omega (
+      arith,
+      counted-phi s c.requires.held.proper l.invariant.counts l.rack l.invariant.is w x (small c) (omega (arith, level (goal.at.After-place-w c).At-loop-at)),
+      l.invariant.left w x (omega (arith, place c)),
+      hit-counted s c.requires.held.proper a.i a.u w x there,
+    )
+
+-- after either branch w has its new counts
+turned : (c : Joined-r-from)
+    → let a = c.args in
+    let w = c.place-w.result in Counted (state (goal.at.Joined-r-from c).At-loop-at) (upd c.loop-at.invariant.counts w (lowered_counts (state (goal.at.Joined-r-from c).At-loop-at) a.i a.u w)) c.if-r-from.rack
+turned c =
+    let a = c.args in
+    let l = c.loop-at in
+    let from : ℕ = c.rank-from.result in
+    let f = from_is (goal.at.Joined-r-from c).At-loop-at in
+    let r = rank_is (goal.at.Joined-r-from c).After-rank-r in
+    let b = rank-low (goal.at.Joined-r-from c).After-place-w in
+    let under = c.requires.u_bound in
+    let step = lowered-turn (state (goal.at.Joined-r-from c).At-loop-at) c.requires.held.proper a.i a.u l.rack l.at l.invariant c.place-w.result c.if-r-from.rack (place (goal.at.Joined-r-from c).After-place-w) (small (goal.at.Joined-r-from c).After-place-w) under.2
+    (owned (goal.at.Joined-r-from c).After-place-w) in
+    elim c.if-r-from.branch [
+      | then-r-from k ↦ step from (omega arith) (omega (arith, k.if-r-from.true)) (λ x c q. omega arith) (omega arith) (k.rack-is ∙ k.step_counts.ensures)
+      | else-r-from k ↦ step c.rank-r.result (omega (arith, k.if-r-from.false)) (omega arith) (λ x c q. omega arith) (omega arith)
+          (k.rack-is ∙ k.step_counts-else-r-from.ensures)
+    ]
+
+pub rank-from-requires : goal.rank-from-requires
+rank-from-requires c = let h = c.requires.held in record { sized = held-sized h; v_lt_most = held_small h _ c.requires.u_bound.0 }
+
+pub first-at-requires : goal.first-at-requires
+first-at-requires c = record { sized = held-sized c.requires.held; v_lt_most = u-small (walk (goal.at.first-at-requires c).Start) }
+
+pub loop-at-init : goal.loop-at-init
+loop-at-init c = row-starts (walk (goal.at.loop-at-init c).Start) c.first-at.ensures
+
+pub place-w-requires : goal.place-w-requires
+place-w-requires c = record { rest_nonzero = some c; word_bound = (c.loop-at.invariant.here (some c)).inside }
+
+pub rank-r-requires : goal.rank-r-requires
+rank-r-requires c = record { sized = sized (goal.at.rank-r-requires c).At-loop-at; v_lt_most = small c }
+
+pub overflow_add-i : goal.overflow_add-i
+overflow_add-i c = omega (arith, level (goal.at.overflow_add-i c).At-loop-at)
+
+pub overflow_sub-i : goal.overflow_sub-i
+overflow_sub-i c = omega (arith, from_is (goal.at.overflow_sub-i c).At-loop-at)
+
+pub step_counts-requires : goal.step_counts-requires
+step_counts-requires c = let r = rank_is (goal.at.step_counts-requires c).After-rank-r in
+    let f = from_is (goal.at.step_counts-requires c).At-loop-at in
+    record { sized = sized (goal.at.step_counts-requires c).At-loop-at; w_lt_most = (small (goal.at.step_counts-requires c).After-place-w, omega (arith, level (goal.at.step_counts-requires c).At-loop-at)); by_index = λ x a b. counted (goal.at.step_counts-requires c).After-place-w x a (omega arith) (omega arith) }
+
+pub overflow_add-i-else-r-from : goal.overflow_add-i-else-r-from
+overflow_add-i-else-r-from c = omega (arith, level (goal.at.overflow_add-i-else-r-from c).At-loop-at)
+
+pub overflow_sub-i-else-r-from : goal.overflow_sub-i-else-r-from
+overflow_sub-i-else-r-from c = omega (arith, rank_is (goal.at.overflow_sub-i-else-r-from c).After-rank-r, rank-low (goal.at.overflow_sub-i-else-r-from c).After-place-w)
+
+pub step_counts-requires-else-r-from : goal.step_counts-requires-else-r-from
+step_counts-requires-else-r-from c = let r = rank_is (goal.at.step_counts-requires-else-r-from c).After-rank-r in
+    let b = rank-low (goal.at.step_counts-requires-else-r-from c).After-place-w in
+    record { sized = sized (goal.at.step_counts-requires-else-r-from c).At-loop-at; w_lt_most = (small (goal.at.step_counts-requires-else-r-from c).After-place-w, omega (arith, level (goal.at.step_counts-requires-else-r-from c).At-loop-at)); by_index = λ x a b. counted (goal.at.step_counts-requires-else-r-from c).After-place-w x (omega arith) (omega arith) (omega arith) }
+
+pub next-at-requires : goal.next-at-requires
+next-at-requires c = record { sized = counted-sized (state (goal.at.next-at-requires c).At-loop-at) c.requires.held.proper _ c.if-r-from.rack (turned c); v_lt_most = u-small (walk (goal.at.next-at-requires c).Start); rest_nonzero = some (goal.at.next-at-requires c).In-loop-at; word_bound = (c.loop-at.invariant.here (some (goal.at.next-at-requires c).In-loop-at)).inside }
+
+pub loop-at-smaller : goal.loop-at-smaller
+loop-at-smaller c = let here = c.loop-at.invariant.here (some (goal.at.loop-at-smaller c).In-loop-at) in
+    omega (arith, small (goal.at.loop-at-smaller c).After-place-w, place (goal.at.loop-at-smaller c).After-place-w, further-less (row-whole low-good) (some (goal.at.loop-at-smaller c).In-loop-at) here c.next-at.ensures)
+
+pub loop-at-preserved : goal.loop-at-preserved
+loop-at-preserved c = row-goes-on (walk (goal.at.loop-at-preserved c).Start) c.loop-at.invariant (some (goal.at.loop-at-preserved c).In-loop-at) c.place-w.ensures (turned (goal.at.loop-at-preserved c).Joined-r-from) c.next-at.ensures
+
+pub shape_of-rack : goal.shape_of-rack
+shape_of-rack c = same_size (walk (goal.at.shape_of-rack c).Start) c.loop-at.invariant
+
+pub returns : goal.returns
+returns c = row_ends (walk (goal.at.returns c).Start) c.loop-at.invariant c.loop-at-test.false
