@@ -52,9 +52,9 @@ turned-now c =
     let x = c.rank-ra.ensures ∙ held-rank h a (a-low (goal.at.Joined-rb-ra c).Start) in
     let y = c.rank-rb.ensures ∙ held-rank h b (b-low (goal.at.Joined-rb-ra c).Start) in
     elim c.if-rb-ra.branch [
-      | then-rb-ra w ↦ w.5 ∙ w.2.ensures ∙ ap (λ (bs : List ℕ). owned low bs a b) h.written
+      | then-rb-ra w ↦ w.rack-is ∙ w.own.ensures ∙ ap (λ (bs : List ℕ). owned low bs a b) h.written
           ∙ own-high a b (from (goal.at.Joined-rb-ra c).Start) (addable (goal.at.Joined-rb-ra c).Start) (omega (arith, w.if-rb-ra.true))
-      | else-rb-ra w ↦ w.5 ∙ w.2.ensures ∙ ap (λ (bs : List ℕ). owned low bs b a) h.written
+      | else-rb-ra w ↦ w.rack-is ∙ w.own-else-rb-ra.ensures ∙ ap (λ (bs : List ℕ). owned low bs b a) h.written
           ∙ own-low a b (from (goal.at.Joined-rb-ra c).Start) (addable (goal.at.Joined-rb-ra c).Start) (omega (arith, w.if-rb-ra.false))
     ]
 

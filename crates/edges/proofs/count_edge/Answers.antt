@@ -22,13 +22,13 @@ up_to more top bs w j e l = e ∙ ap (recounted low (step more) bs w j) l
 first-now : (c : After-step_counts)
     → let a = c.args in c.step_counts.new.rack ≡ recounted_from low a.more (top_at a.rack.now) a.rack.now a.a a.j
 first-now c =
-     let a = c.args in
+    let a = c.args in
     up_to a.more (top_at a.rack.now) a.rack.now a.a a.j c.step_counts.ensures (omega (arith, c.top.ensures))
 
 second-now : (c : After-step_counts-2)
     → let a = c.args in c.step_counts-2.new.rack ≡ ends_counted low a.more a.rack.now a.a a.b a.j
 second-now c =
-     let a = c.args in
+    let a = c.args in
     up_to a.more (top_at a.rack.now) c.step_counts.new.rack a.b a.j c.step_counts-2.ensures
     (omega (arith, c.top.ensures))
     ∙ ap (λ (bs : List ℕ). recounted_from low a.more (top_at a.rack.now) bs a.b a.j) (first-now (goal.at.After-step_counts-2 c).After-step_counts)
@@ -41,11 +41,11 @@ overflow_sub-k c = omega (arith, c.top.ensures, c.requires.countable.level)
 
 pub step_counts-requires : goal.step_counts-requires
 step_counts-requires c = let k = c.top.ensures in
-    record { sized = c.requires.sized; w_lt_most = (c.requires.countable.a_in, omega (arith, c.requires.countable.level, c.requires.countable.room)); by_index = λ x l h. c.requires.countable.of-a x l (omega (arith, c.requires.countable.level)); }
+    record { sized = c.requires.sized; w_lt_most = (c.requires.countable.a_in, omega (arith, c.requires.countable.level, c.requires.countable.room)); by_index = λ x l h. c.requires.countable.of-a x l (omega (arith, c.requires.countable.level)) }
 
 pub step_counts-requires-2 : goal.step_counts-requires-2
 step_counts-requires-2 c = let a = c.args in
-    let k = c.top.ensures in record { sized = omega (arith, c.step_counts.auto.rack, c.requires.sized); w_lt_most = (c.requires.countable.b-in, omega (arith, c.requires.countable.level, c.requires.countable.room)); by_index = λ x l h. subst (λ (bs : List ℕ). CanStep a.more (largest_count low) (phi_at low bs a.b x)) (sym (first-now (goal.at.step_counts-requires-2 c).After-step_counts)) (c.requires.countable.of-b x l (omega (arith, c.requires.countable.level))); }
+    let k = c.top.ensures in record { sized = omega (arith, c.step_counts.auto.rack, c.requires.sized); w_lt_most = (c.requires.countable.b-in, omega (arith, c.requires.countable.level, c.requires.countable.room)); by_index = λ x l h. subst (λ (bs : List ℕ). CanStep a.more (largest_count low) (phi_at low bs a.b x)) (sym (first-now (goal.at.step_counts-requires-2 c).After-step_counts)) (c.requires.countable.of-b x l (omega (arith, c.requires.countable.level))) }
 
 pub stepped-next-requires : goal.stepped-next-requires
 stepped-next-requires c = subst (CanStep c.args.more (largest_edges low)) (sym (c.edges-m.ensures ∙ ap (edges_at low) (second-now (goal.at.stepped-next-requires c).After-step_counts-2))) c.requires.countable.of-edges

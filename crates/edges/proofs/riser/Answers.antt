@@ -49,7 +49,7 @@ highest c x p q = c.higher-low.ensures.2 x (omega (arith, a-rank c)) (omega (ari
 -- the level j - 1 is above both ends
 above : (c : Else-j-low) → Above (a-of (goal.at.Else-j-low c).At-loop-j) (b-of (goal.at.Else-j-low c).At-loop-j) c.loop-j.j (state-of (goal.at.Else-j-low c).At-loop-j)
 above c =
-     let h = c.higher-low.ensures in
+    let h = c.higher-low.ensures in
     record {
       some = omega arith;
       a-low = omega (arith, h.0, a-rank (goal.at.Else-j-low c).At-loop-j);
@@ -74,13 +74,13 @@ b-count : (c : Else-j-low)
 b-count c = held-entry (held (goal.at.Else-j-low c).At-loop-j) (b-of (goal.at.Else-j-low c).At-loop-j) (c.loop-j.j - 1) (b-small (goal.at.Else-j-low c).At-loop-j) (level c)
 
 pub rank-requires : goal.rank-requires
-rank-requires c = record { sized = held-sized c.requires.held; v_lt_most = held_small c.requires.held c.args.a c.requires.a_bound.0; }
+rank-requires c = record { sized = held-sized c.requires.held; v_lt_most = held_small c.requires.held c.args.a c.requires.a_bound.0 }
 
 pub rank-requires-2 : goal.rank-requires-2
-rank-requires-2 c = record { sized = held-sized c.requires.held; v_lt_most = held_small c.requires.held c.args.b c.requires.a_bound.1; }
+rank-requires-2 c = record { sized = held-sized c.requires.held; v_lt_most = held_small c.requires.held c.args.b c.requires.a_bound.1 }
 
 pub thresholds-bars-requires : goal.thresholds-bars-requires
-thresholds-bars-requires c = let h = c.requires.held in (held-sized h, held-range h)
+thresholds-bars-requires c = let h = c.requires.held in record { sized = held-sized h; in_range = held-range h }
 
 pub loop-j-init : goal.loop-j-init
 loop-j-init c = let r = c.args.rack.now in
@@ -90,13 +90,13 @@ pub overflow_sub-j : goal.overflow_sub-j
 overflow_sub-j c = omega arith
 
 pub offset_bounds-bars-j : goal.offset_bounds-bars-j
-offset_bounds-bars-j c = omega (arith, level c)
+offset_bounds-bars-j c = omega (arith, c.loop-j.invariant.0)
 
 pub bounds-bars-j : goal.bounds-bars-j
-bounds-bars-j c = omega (arith, level c, c.thresholds-bars.ensures.0)
+bounds-bars-j c = omega (arith, c.loop-j.invariant.0, c.thresholds-bars.ensures.0)
 
 pub phi-requires : goal.phi-requires
-phi-requires c = record { sized = held-sized (held (goal.at.phi-requires c).At-loop-j); v_lt_most = omega (arith, a_small (goal.at.phi-requires c).At-loop-j, b-small (goal.at.phi-requires c).At-loop-j); j_lt_levels = omega (arith, level c); }
+phi-requires c = record { sized = held-sized (held (goal.at.phi-requires c).At-loop-j); v_lt_most = omega (arith, a_small (goal.at.phi-requires c).At-loop-j, b-small (goal.at.phi-requires c).At-loop-j); j_lt_levels = omega (arith, level c) }
 
 pub offset_bounds-bars-j-in-loop-j : goal.offset_bounds-bars-j-in-loop-j
 offset_bounds-bars-j-in-loop-j c = omega (arith, level (goal.at.offset_bounds-bars-j-in-loop-j c).Else-j-low)
@@ -105,7 +105,7 @@ pub bounds-bars-j-in-loop-j : goal.bounds-bars-j-in-loop-j
 bounds-bars-j-in-loop-j c = omega (arith, level (goal.at.bounds-bars-j-in-loop-j c).Else-j-low, c.thresholds-bars.ensures.0)
 
 pub phi-requires-in-loop-j : goal.phi-requires-in-loop-j
-phi-requires-in-loop-j c = record { sized = held-sized (held (goal.at.phi-requires-in-loop-j c).At-loop-j); v_lt_most = omega (arith, a_small (goal.at.phi-requires-in-loop-j c).At-loop-j, b-small (goal.at.phi-requires-in-loop-j c).At-loop-j); j_lt_levels = omega (arith, level (goal.at.phi-requires-in-loop-j c).Else-j-low); }
+phi-requires-in-loop-j c = record { sized = held-sized (held (goal.at.phi-requires-in-loop-j c).At-loop-j); v_lt_most = omega (arith, a_small (goal.at.phi-requires-in-loop-j c).At-loop-j, b-small (goal.at.phi-requires-in-loop-j c).At-loop-j); j_lt_levels = omega (arith, level (goal.at.phi-requires-in-loop-j c).Else-j-low) }
 
 pub loop-j-smaller : goal.loop-j-smaller
 loop-j-smaller c = omega (arith, (above (goal.at.loop-j-smaller c).Else-j-low).some)
@@ -117,10 +117,10 @@ a-under c = omega (arith, a-count (goal.at.Else-bars-j c).Else-j-low, c.if-bars-
 
 pub loop-j-preserved : goal.loop-j-preserved
 loop-j-preserved c = (
-      omega (arith, c.loop-j.invariant.0),
-      search-on (a-of (goal.at.loop-j-preserved c).At-loop-j) (b-of (goal.at.loop-j-preserved c).At-loop-j) c.loop-j.j (state-of (goal.at.loop-j-preserved c).At-loop-j) (held (goal.at.loop-j-preserved c).At-loop-j).proper (above (goal.at.loop-j-preserved c).Else-j-low) c.loop-j.invariant.1 (a-under (goal.at.loop-j-preserved c).Else-bars-j)
-          (omega (arith, b-count (goal.at.loop-j-preserved c).Else-j-low, c.if-bars-j-2.false, c.phi-in-loop-j.ensures, bar (goal.at.loop-j-preserved c).Else-j-low)),
-    )
+  omega (arith, c.loop-j.invariant.0),
+  search-on (a-of (goal.at.loop-j-preserved c).At-loop-j) (b-of (goal.at.loop-j-preserved c).At-loop-j) c.loop-j.j (state-of (goal.at.loop-j-preserved c).At-loop-j) (held (goal.at.loop-j-preserved c).At-loop-j).proper (above (goal.at.loop-j-preserved c).Else-j-low) c.loop-j.invariant.1 (a-under (goal.at.loop-j-preserved c).Else-bars-j)
+      (omega (arith, b-count (goal.at.loop-j-preserved c).Else-j-low, c.if-bars-j-2.false, c.phi-in-loop-j.ensures, bar (goal.at.loop-j-preserved c).Else-j-low)),
+)
 
 -- the ranks are at most the top level's, so that a search that ends at them is not above the top
 pub returns-then-j-low : goal.returns-then-j-low
