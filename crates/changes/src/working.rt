@@ -61,7 +61,7 @@ fn copy(from: &[u8], to: &mut [u8])
     requires { length from.now ≡ length to.old }
     ensures { to.new ≡ from.now }
 {
-    bytes::copy(from, to);
+    to.copy_from_slice(from);
 }
 
 // "A change is carried out only if its words suffice, and otherwise the rack keeps its bytes.": all of it is done, and the bytes from before are put
