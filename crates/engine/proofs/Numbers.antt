@@ -21,20 +21,12 @@ use Rattle.model.proofs.Facts.{Facts, sound-says}
 use Rattle.model.proofs.Rosters.{roster-size}
 use Rattle.model.proofs.Reading.{read-owns}
 
--- what a test of a negation says, and what it says of what a flag stands for
-pub off : (b : Bool) → not b ≡ true → b ≡ false
-off true e = sym e
-off false e = refl
+-- what a test of a flag says of what it stands for
+pub flag_off : {r b : Bool} → r ≡ b → r ≡ false → b ≡ false
+flag_off e t = sym e ∙ t
 
-pub on : (b : Bool) → not b ≡ false → b ≡ true
-on true e = refl
-on false e = sym e
-
-pub flag_off : {r b : Bool} → r ≡ b → not r ≡ true → b ≡ false
-flag_off {r} e t = sym e ∙ off r t
-
-pub flag-on : {r b : Bool} → r ≡ b → not r ≡ false → b ≡ true
-flag-on {r} e t = sym e ∙ on r t
+pub flag-on : {r b : Bool} → r ≡ b → r ≡ true → b ≡ true
+flag-on e t = sym e ∙ t
 
 -- what the test of a number says
 pub told : {k m : ℕ} → k ≡ m → k ≢ 0 → eqb m 0 ≡ false

@@ -14,8 +14,8 @@ use borrow.Author.Rules.{rules}
 use Rattle.model.specs.Shape.{low}
 use Rattle.model.specs.Calls.{at_level}
 use Rattle.model.proofs.Tests.{true-T, eqb_no}
-use Rattle.engine.proofs.rank_of.Statement.{statement}
-use Rattle.engine.proofs.rank_of.Tie as tie
+use Rattle.engine.proofs.rank_of.Goals.{Else-level-lt0}
+use Rattle.engine.proofs.rank_of.Goals as goal
 
 -- what the test of the sign says of the level itself
 signed : (z : ℤ) → SFits w32 z → {b : Bool} → lt_z (to_z w32 (of_z w32 z)) (pos 0) ≡ b → lt_z z (pos 0) ≡ b
@@ -44,46 +44,33 @@ unfolding at_level
 above (pos n) e x = ap (eqb x) (omega arith)
 above (negsuc n) e x = absurd (subst T e tt)
 
-returns : tie.Need-returns
-returns c =
-    let s = c.before.before in
-    let z = s.args.level in
-    λ x l. minus_one z s.ranges.level (signed z s.ranges.level c.before.if1.true) c.if2.true x
+pub returns-then-level-eqminus1 : goal.returns-then-level-eqminus1
+returns-then-level-eqminus1 c = let z = c.args.level in
+    λ x l. minus_one z c.ranges.level (signed z c.ranges.level c.if-level-lt0.true) c.if-level-eqminus1.true x
 
-add-result : tie.Need-overflow-add-result
-add-result c = search rules
-
-returns-2 : tie.Need-returns-2
-returns-2 c =
-    let s = c.before.before in
-    let z = s.args.level in
-    λ x l. lower z (signed z s.ranges.level c.before.if1.true) c.if2.false x (suc low.levels) (omega arith)
+pub returns-then-level-lt0 : goal.returns-then-level-lt0
+returns-then-level-lt0 c = let z = c.args.level in
+    λ x l. lower z (signed z c.ranges.level c.if-level-lt0.true) c.if-level-eqminus1.false x (suc low.levels) (omega arith)
 
 -- the level as it is read back
-back : (c : tie.Else1) → to_z w32 (of_z w32 c.before.args.level) ≡ c.before.args.level
-back c = to_z-of_z w32 c.before.args.level c.before.ranges.level
+back : (c : Else-level-lt0) → to_z w32 (of_z w32 c.args.level) ≡ c.args.level
+back c = to_z-of_z w32 c.args.level c.ranges.level
 
-not-below : (c : tie.Else1) → lt_z c.before.args.level (pos 0) ≡ false
-not-below c = signed c.before.args.level c.before.ranges.level c.if1.false
+not-below : (c : Else-level-lt0) → lt_z c.args.level (pos 0) ≡ false
+not-below c = signed c.args.level c.ranges.level c.if-level-lt0.false
 
-small : (c : tie.Else1) → nat_abs c.before.args.level ≤ 2147483648
-small c = nat_abs-le c.before.args.level c.before.ranges.level.sfits
+small : (c : Else-level-lt0) → nat_abs c.args.level ≤ 2147483648
+small c = nat_abs-le c.args.level c.ranges.level.sfits
 
-cast-result : tie.Need-overflow-cast-result
-cast-result c = (
-  subst (λ (y : ℤ). T (non_neg y)) (sym (back c)) (from_zero c.before.args.level (not-below c)),
+pub overflow_cast-result : goal.overflow_cast-result
+overflow_cast-result c = (
+  subst (λ (y : ℤ). T (non_neg y)) (sym (back c)) (from_zero c.args.level (not-below c)),
   record { fits = omega (arith, small c, ap nat_abs (back c)) },
 )
 
-add-result-2 : tie.Need-overflow-add-result-2
-add-result-2 c = record { fits = omega (arith, small c, ap nat_abs (back c)) }
+pub overflow_add-result-2 : goal.overflow_add-result-2
+overflow_add-result-2 c = record { fits = omega (arith, small c, ap nat_abs (back c)) }
 
-returns-3 : tie.Need-returns-3
-returns-3 c =
-    let z = c.before.args.level in
+pub returns : goal.returns
+returns c = let z = c.args.level in
     λ x l. above z (not-below c) x ∙ ap (λ (y : ℤ). eqb x (nat_abs y + 1)) (sym (back c))
-
-pub rank-of-spec : {M : Type 1} → statement M
-rank-of-spec =
-    tie.close
-    (tie.spec returns add-result returns-2 cast-result add-result-2 returns-3)
