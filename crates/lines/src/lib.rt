@@ -1,12 +1,14 @@
 // The lines of a trace. Each reader takes any position of the text, and answers the value whose printed form stands there with the
 // position after it, or that none stands there.
+#![tactic(auto)]
+
 ghost use Rattle.std.specs.Prelude.{◌+◌, ◌≤◌, length};
 ghost use Rattle.lines.specs.Clauses.{LongAt, RackEndAt, RackAt, CodeAt, EndsAt, WordAt, LineEndAt, WordsAt, ChangeAt};
 
 use text::{Literal, Number};
 
 // What line 1 says of the settings: nothing, or a growth and a top level.
-#[derive(Drop)]
+#[derive(Clone, Copy)]
 pub enum Settings {
     Short,
     Long { growth: u32, top: u32 },
@@ -20,7 +22,7 @@ pub enum LongRead {
 }
 
 // The number of vertices and the settings, and the position after the line.
-#[derive(Drop)]
+#[derive(Clone, Copy)]
 pub enum RackRead {
     Rack {
         n: u32,
@@ -60,7 +62,7 @@ pub enum WordsRead {
 }
 
 // The code, the two vertices, how many words, and the position after the line.
-#[derive(Drop)]
+#[derive(Clone, Copy)]
 pub enum ChangeRead {
     Line {
         code: u32,

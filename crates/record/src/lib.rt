@@ -1,5 +1,7 @@
 // The lines of a record. A printer writes at the start of the part that it is lent and answers how much it wrote; bytes past that keep
 // their values. "each line is put straight after the one before it in the record space": a caller lends the rest of the space.
+#![tactic(auto)]
+
 ghost use Rattle.std.specs.Prelude.{◌≤◌, length};
 ghost use Rattle.model.specs.Trace.{short, long, rack_line};
 ghost use Rattle.model.specs.Record.{answer_line, end_text, blank_record};

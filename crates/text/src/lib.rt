@@ -1,5 +1,7 @@
 // Numbers and fixed texts in bytes: each reader says what stands at a position of a text, each writer writes at the start of what it is
 // lent. A reader takes any position: past the end nothing stands.
+#![tactic(auto)]
+
 ghost use Rattle.std.specs.Prelude.{◌+◌, ◌<◌, ◌≤◌, length};
 ghost use Rattle.model.specs.Text.{decimal};
 ghost use Rattle.text.specs.Number.{DigitOf, Begins, NumberAt};

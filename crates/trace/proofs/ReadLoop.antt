@@ -3,7 +3,7 @@
 --     Inv              the lines read so far are line 1 and some changes, which are kept; or the first line that doesn't fit is known
 --     rack-holds       it holds after line 1.        line-holds       and after one line more
 --     answers          where the loop is left, what was got is what `read_lines` must answer
---     at-within, can-read, can-keep    what a turn's test, `next_line` and `with_line` ask for
+--     can-read, can-keep    what `next_line` and `with_line` ask for
 --     left, line-less  what is left to read, and that a line makes it less
 -- Assumes nothing.
 use Prim.Native.Nat.{ℕ, zero, suc, ◌+◌, ◌*◌, ◌-◌, ◌≤◌, ◌<◌}
@@ -136,9 +136,6 @@ module _ (text heads₀ words₀ : List ℕ) where
   module _ (asked : Asked text heads₀ words₀) (s : Stand) (v : Inv s) (none : s.got.bad ≡ 0) where
     good : Read s
     good = subst (λ (k : ℕ). Sofar k s) none v.so_far
-
-    pub at-within : s.at ≤ length text
-    at-within = good.within
 
     pub can-read : s.got.words + 128 ≤ length s.words
     can-read = omega (arith, asked, v.words_long, good.within, good.far)

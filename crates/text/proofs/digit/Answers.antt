@@ -1,6 +1,6 @@
 -- `text::digit` meets its contract: a byte below the digits wraps to a number far above 9.
 -- Assumes nothing.
-use Rattle.std.proofs.Common.{arith, rules}
+use Rattle.std.proofs.Common.{arith}
 use Rattle.text.proofs.Decimals.{digit-out}
 use Rattle.text.proofs.digit.Goals as goal
 

@@ -1,7 +1,6 @@
 -- `text::literal_at` meets its contract. The invariant: the first k bytes of p stand at `at`.
 -- Assumes nothing.
-use Rattle.std.proofs.Common.{◌-◌, ◌≤◌, length, arith}
-use Rattle.text.specs.Literal.{Starts}
+use Rattle.std.proofs.Common.{arith}
 use Rattle.text.proofs.Standing.{literal-start, literal-short}
 use Rattle.text.proofs.Fours.{four-turn, four-differs}
 use Rattle.text.proofs.literal_at.Goals as goal

@@ -1,10 +1,7 @@
 -- `text::number_at` meets its contract. The invariant: the digits up to i are the decimal form of v. Each answer is one law of `Begun`.
 -- Assumes nothing.
-use Rattle.std.proofs.Common.{◌≡◌, ◌-◌, ◌≤◌, ◌++◌, length, drop, arith, rules}
+use Rattle.std.proofs.Common.{◌≡◌, ◌-◌, ◌≤◌, ◌++◌, length, drop}
 use Rattle.model.specs.Text.{decimal, largest}
-use Rattle.text.proofs.Decimals as decimals
-use Rattle.text.proofs.Standing.{ends-out}
-use Rattle.text.proofs.Begun as begun
 use Rattle.text.proofs.number_at.Given as goal
 
 abbrev pub invariant-loop-i : goal.invariant-loop-i

@@ -1,6 +1,6 @@
 -- `text::number_within` meets its contract. The invariant: the first k digits are the decimal form of v, which has k digits.
 -- Assumes nothing.
-use Rattle.std.proofs.Common.{◌≡◌, ℕ, ◌+◌, ◌-◌, ◌≤◌, subst, arith, rules}
+use Rattle.std.proofs.Common.{◌≡◌, ℕ, ◌+◌, subst, arith}
 use Rattle.text.specs.Number.{Begins}
 use Rattle.text.proofs.Decimals as decimals
 use Rattle.text.proofs.Begun as begun

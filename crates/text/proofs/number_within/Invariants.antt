@@ -1,9 +1,7 @@
 -- `text::number_within` meets its contract. The invariant: the first k digits are the decimal form of v, which has k digits.
 -- Assumes nothing.
-use Rattle.std.proofs.Common.{◌≡◌, ℕ, ◌+◌, ◌-◌, ◌≤◌, subst, arith, rules}
+use Rattle.std.proofs.Common.{◌-◌, ◌≤◌}
 use Rattle.text.specs.Number.{Begins}
-use Rattle.text.proofs.Decimals as decimals
-use Rattle.text.proofs.Begun as begun
 use Rattle.text.proofs.number_within.Given as goal
 
 abbrev pub invariant-loop-k : goal.invariant-loop-k

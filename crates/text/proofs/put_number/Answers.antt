@@ -1,5 +1,5 @@
 -- `text::put_number` meets its contract. One digit, or as `put_digits` writes it. Assumes nothing.
-use Rattle.std.proofs.Common.{arith, rules}
+use Rattle.std.proofs.Common.{arith}
 use Rattle.text.proofs.Decimals.{length-small}
 use Rattle.text.proofs.Over.{put-digit}
 use Rattle.text.proofs.put_number.Goals as goal

@@ -1,7 +1,6 @@
 -- `text::rest_at` meets its contract. The invariant: the first k bytes of p stand at `at`.
 -- Assumes nothing.
-use Rattle.std.proofs.Common.{ℕ, ◌+◌, ◌-◌, ◌<◌, ◌≤◌, List, ◌++◌, length, drop, ap, ◌∙◌, arith, take_all}
-use Rattle.text.specs.Literal.{Starts}
+use Rattle.std.proofs.Common.{ℕ, ◌+◌, ◌<◌, List, ◌++◌, length, drop, ap, ◌∙◌, arith, take_all}
 use Rattle.text.proofs.Standing.{literal-turn, literal-differs}
 use Rattle.text.proofs.rest_at.Goals as goal
 

@@ -1,8 +1,7 @@
 -- `text::rest_at` meets its contract. The invariant: the first k bytes of p stand at `at`.
 -- Assumes nothing.
-use Rattle.std.proofs.Common.{ℕ, ◌+◌, ◌-◌, ◌<◌, ◌≤◌, List, ◌++◌, length, drop, ap, ◌∙◌, arith, take_all}
+use Rattle.std.proofs.Common.{◌-◌, ◌≤◌, length}
 use Rattle.text.specs.Literal.{Starts}
-use Rattle.text.proofs.Standing.{literal-turn, literal-differs}
 use Rattle.text.proofs.rest_at.Given as goal
 
 abbrev pub invariant-loop-k : goal.invariant-loop-k

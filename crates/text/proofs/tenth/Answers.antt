@@ -1,5 +1,5 @@
 -- `text::tenth` meets its contract: nine digits, ten, or too many. Assumes nothing.
-use Rattle.std.proofs.Common.{◌+◌, ◌*◌, arith, rules}
+use Rattle.std.proofs.Common.{◌+◌, ◌*◌, arith}
 use Rattle.text.specs.Number.{Begins}
 use Rattle.text.proofs.Decimals as decimals
 use Rattle.text.proofs.Begun as begun
