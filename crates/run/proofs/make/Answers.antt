@@ -10,8 +10,7 @@ use Rattle.lines.specs.declared.Settings.{Settings}
 use Rattle.lines.specs.declared.Settings.TheVariants.{Short, Long}
 use Rattle.run.specs.Recording.{kind_named}
 use borrow.Author.Rules.{rules}
-use Rattle.run.proofs.make.Statement.{statement}
-use Rattle.run.proofs.make.Tie as tie
+use Rattle.run.proofs.make.Goals as goal
 
 -- the kind that each form of line 1 asks for
 short-kind : {settings : Settings} → settings ≡ Short → low_kind ≡ kind_named (named_by settings)
@@ -27,39 +26,12 @@ made_as : {K L : Kind} (bs : List ℕ) (n : ℕ) {last : List ℕ} {r : ℕ} →
     → (r ≡ make_number L bs n) × (last ≡ made L bs n)
 made_as bs n {last} {r} e m = subst (λ (K : Kind). (r ≡ make_number K bs n) × (last ≡ made K bs n)) e m
 
-enum_told : tie.Need-enum-told
-enum_told c = search rules
+pub returns-in-Short : goal.returns-in-Short
+returns-in-Short c =
+    let all = made_as _ _ (short-kind c.in-Short.is) (c.make_with.ensures.number, c.make_with.ensures.leaves) in
+    record { number = all.0; leaves = all.1 }
 
-make-with-requires : tie.Need-make-with-requires
-make-with-requires c κs = search rules
-
-enum-known-settings : tie.Need-enum-known-settings
-enum-known-settings c = search rules
-
-make-with-requires-2 : tie.Need-make-with-requires-2
-make-with-requires-2 c κs = search rules
-
-same_length : tie.Need-same-length
-same_length c = search rules
-
-returns : tie.Need-returns
-returns c = made_as _ _ (short-kind c.before.before.before.before.enum_told.given.1) c.before.before.make-with.ensures
-
-same-length-2 : tie.Need-same-length-2
-same-length-2 c = search rules
-
-returns-2 : tie.Need-returns-2
-returns-2 c = made_as _ _ (long-kind c.before.before.before.before.before.settings.given.1) c.before.before.make-with2.ensures
-
-pub make_spec : {M : Type 1} → statement M
-make_spec =
-    tie.close
-    (tie.spec
-    enum_told
-    make-with-requires
-    enum-known-settings
-    make-with-requires-2
-    same_length
-    returns
-    same-length-2
-    returns-2)
+pub returns-in-Long : goal.returns-in-Long
+returns-in-Long c =
+    let all = made_as _ _ (long-kind c.in-Long.is) (c.make_with-in-Long.ensures.number, c.make_with-in-Long.ensures.leaves) in
+    record { number = all.0; leaves = all.1 }

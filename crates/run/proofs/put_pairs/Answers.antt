@@ -1,0 +1,59 @@
+-- `run::put_pairs` meets its contract. The invariant is `Listed` of `Pairs`. Assumes nothing.
+use mathlib.Core.Path.{◌≡◌, ◌∙◌}
+use Prim.Native.Nat.{◌+◌, ◌-◌, ◌≤◌, ◌<◌}
+use native.Mathlib.Omega.{arith}
+use lib.ListN.{length}
+use Rattle.model.specs.Shape.{low}
+use Rattle.model.specs.Bytes.{read}
+use Rattle.text.specs.Rooms.{pair_room}
+use Rattle.text.proofs.Over.{length_part}
+use Rattle.moves.proofs.Held.{held-sized, held-size, held-few}
+use Rattle.changes.proofs.Wholes.{sounded-held}
+use Rattle.run.proofs.Pairs.{Listed, listed_start, listed_kept, listed-room, listed-turn, listed-end}
+use borrow.Author.Rules.{rules}
+use Rattle.run.proofs.put_pairs.Goals.{At-loop-v, In-loop-v}
+use Rattle.run.proofs.put_pairs.Goals as goal
+
+-- the size that was read is the rack's
+size_is : (l : At-loop-v) → l.size-n.result ≡ (read low l.args.rack.now).n
+size_is l = l.size-n.ensures ∙ held-size (sounded-held _ l.requires.sounded)
+
+-- the vertex of this turn is one of the rack's, and there is room for its line
+inside : (c : In-loop-v) → c.loop-v.v < (read low c.args.rack.now).n
+inside c = omega (arith, c.loop-v-test.true, size_is (goal.at.In-loop-v c).At-loop-v)
+
+room : (c : In-loop-v) → c.loop-v.at + pair_room ≤ length c.loop-v.out
+room c = listed-room c.requires.sounded c.requires.ending_room_in_bounds c.loop-v.invariant (inside c)
+
+pub size-n-requires : goal.size-n-requires
+size-n-requires c = held-sized (sounded-held _ c.requires.sounded)
+
+pub loop-v-init : goal.loop-v-init
+loop-v-init c = listed_start _ _
+
+pub slice_bounds-put_lower-count : goal.slice_bounds-put_lower-count
+slice_bounds-put_lower-count c = omega (arith, room c)
+
+pub slice_bounds-put_lower-start : goal.slice_bounds-put_lower-start
+slice_bounds-put_lower-start c = omega (arith, room c)
+
+pub put_lower-k-requires : goal.put_lower-k-requires
+put_lower-k-requires c = let l = c.loop-v in
+    record { sounded = c.requires.sounded; v_bound = (inside (goal.at.put_lower-k-requires c).In-loop-v, omega (arith, room (goal.at.put_lower-k-requires c).In-loop-v, length_part l.at l.out)) }
+
+pub loop-v-preserved : goal.loop-v-preserved
+loop-v-preserved c = listed-turn c.requires.sounded c.requires.ending_room_in_bounds c.loop-v.invariant (inside (goal.at.loop-v-preserved c).In-loop-v) c.put_lower-k.ensures
+
+pub overflow_add-at : goal.overflow_add-at
+overflow_add-at c =
+    let next = listed-turn c.requires.sounded c.requires.ending_room_in_bounds c.loop-v.invariant (inside (goal.at.overflow_add-at c).In-loop-v) c.put_lower-k.ensures in
+    record { fits = omega (arith, next.few, next.inside, held-few (sounded-held _ c.requires.sounded)) }
+
+pub loop-v-smaller : goal.loop-v-smaller
+loop-v-smaller c = omega (arith, inside (goal.at.loop-v-smaller c).In-loop-v)
+
+pub shape_of-out : goal.shape_of-out
+shape_of-out c = listed_kept c.requires.sounded c.requires.ending_room_in_bounds c.loop-v.invariant
+
+pub returns : goal.returns
+returns c = listed-end c.requires.sounded c.requires.ending_room_in_bounds c.loop-v.invariant (omega (arith, c.loop-v-test.false, size_is (goal.at.returns c).At-loop-v))
