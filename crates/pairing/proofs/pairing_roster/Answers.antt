@@ -9,22 +9,13 @@ use mir.ValLaws.{to_z-of_z}
 use borrow.Author.Rules.{rules}
 use Rattle.model.specs.Shape.{low}
 use Rattle.model.specs.Calls.{QueryAnswer, roster_query}
-use Rattle.pairing.proofs.pairing_roster.Statement.{statement}
-use Rattle.pairing.proofs.pairing_roster.Tie as tie
+use Rattle.pairing.proofs.pairing_roster.Goals as goal
 
 -- a figure of the query is that of the level asked for
 asked : (figure : QueryAnswer → ℕ) (bs : List ℕ) {a : ℕ} {z level : ℤ} → a ≡ figure (roster_query low bs z) → z ≡ level → a ≡ figure (roster_query low bs level)
 asked figure bs e same = e ∙ ap (λ (i : ℤ). figure (roster_query low bs i)) same
 
-roster-requires : tie.Need-roster-requires
-roster-requires c κs = search rules
-
-returns : tie.Need-returns
-returns c =
-    let s = c.before.before in
-    let e = c.roster.ensures in
-    let back : to_z w32 (of_z w32 s.args.level) ≡ s.args.level = to_z-of_z w32 s.args.level s.ranges.level in
-    (asked (λ q. q.number) s.args.rack.now e.number back, asked (λ q. q.value) s.args.rack.now e.value back)
-
-pub pairing-roster-spec : {M : Type 1} → statement M
-pairing-roster-spec = tie.close (tie.spec roster-requires returns)
+pub returns : goal.returns
+returns c = let e = c.roster-answer.ensures in
+    let back : to_z w32 (of_z w32 c.args.level) ≡ c.args.level = to_z-of_z w32 c.args.level c.ranges.level in
+    record { number = asked (λ q. q.number) c.args.rack.now e.number back; count = asked (λ q. q.value) c.args.rack.now e.value back }
