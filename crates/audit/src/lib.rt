@@ -1,5 +1,7 @@
 // Whether rack bytes are sound: any bytes of a rack's length, damaged in any way. One way over the rows tests the owners and gathers a
 // tally of the edges at each vertex, to which the counts are then held. The contracts cite specs/ and the facts of a sound rack in `model`.
+#![tactic(auto)]
+
 ghost use Rattle.std.specs.Prelude.{◌≡◌, ℕ, ◌*◌, ◌<◌, ◌≤◌, length};
 ghost use Rattle.model.specs.Shape.{low};
 ghost use Rattle.model.specs.State.{InRange};

@@ -6,7 +6,7 @@ use Prim.Native.Nat.{ℕ, suc, ◌-◌, ◌*◌, ◌≤◌, ◌<◌}
 use native.Mathlib.Omega.{arith}
 use lib.ListN.{length, take}
 use Rattle.model.specs.Shape.{Shape}
-use Rattle.model.specs.State.{Rules, rules, State}
+use Rattle.model.specs.State.{Rules, State}
 use Rattle.model.specs.Bytes.{rules_at, kind_at, top_at, read, write}
 use Rattle.model.specs.Moves.{Run, part, promote, settle_in, settle}
 use Rattle.model.specs.Change.{start, start_parted}

@@ -1,4 +1,6 @@
 // One change of a rack that is known to be sound: its number, and the add or drop with its settling.
+#![tactic(auto)]
+
 ghost use Rattle.std.specs.Prelude.{◌≡◌, ◌≢◌, true, false, [], ◌<◌};
 ghost use Rattle.model.specs.Shape.{low};
 ghost use Rattle.model.specs.State.{edge, pairs as pairs_of};

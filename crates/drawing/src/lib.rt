@@ -1,4 +1,6 @@
 // The words of a draw: which one decides it, and a quick test for words that suffice.
+#![tactic(auto)]
+
 ghost use Rattle.std.specs.Prelude.{◌≡◌, ◌≤◌};
 ghost use Rattle.model.specs.Shape.{low};
 ghost use Rattle.model.specs.Words.{chooses as choosing, deciding, place as place_of};

@@ -1,4 +1,6 @@
 // One edge more or less on the rack's bytes, with the counts of its ends and the number of edges; and the search for a rise.
+#![tactic(auto)]
+
 ghost use Rattle.std.specs.Prelude.{◌≡◌, true, false, ◌≢◌, suc, ◌<◌, ◌≤◌, ℕ};
 ghost use Rattle.model.specs.Shape.{low};
 ghost use Rattle.model.specs.State.{edge};

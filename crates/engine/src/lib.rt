@@ -1,5 +1,7 @@
 // The calls on a lent rack: making, a change, the audit and the queries. None has a `requires`: what a call cannot do it turns back,
 // with the first number that fits, and then every byte stays. Each contract names the definition that leaves one outcome.
+#![tactic(auto)]
+
 ghost use Rattle.std.specs.Prelude.{◌≡◌, ℕ, ◌≤◌, eqb, pos};
 ghost use Rattle.std.proofs.Math.IntN.{pred_ℤ};
 ghost use Rattle.model.specs.Shape.{low};

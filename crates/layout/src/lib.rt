@@ -1,5 +1,7 @@
 // The fields of the rack bytes: each accessor takes the whole buffer and answers or changes one field. Above this crate no offset and no
 // size of the rack is written. The contracts cite the reading of the bytes in `model` and specs/; callers use the laws of proofs/.
+#![tactic(auto)]
+
 ghost use Rattle.std.specs.Prelude.{◌≡◌, ◌||◌, ◌<◌, ◌≤◌, ◌+◌, ◌*◌, length, replicate};
 ghost use Rattle.model.specs.Shape.{low, rack_length};
 ghost use Rattle.model.specs.State.{low_with, empty};

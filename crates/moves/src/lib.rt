@@ -1,5 +1,7 @@
 // The moves of document 01 on the rack's bytes, and their steps. The contract of a move says that the bytes are then the writing of the
 // definition's state, that of a step the same of an image whose counts are half adjusted.
+#![tactic(auto)]
+
 ghost use Rattle.std.specs.Prelude.{◌≡◌, ◌≢◌, ℕ, suc, ◌+◌, ◌*◌, ◌<◌, ◌≤◌, T};
 ghost use Rattle.model.specs.Shape.{low};
 ghost use Rattle.model.specs.Counting.{count};

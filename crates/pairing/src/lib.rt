@@ -1,5 +1,7 @@
 // The calls for C and Rust, under one prefix. Numbers pass as themselves, a slice as a pointer and then a length. The result is document
 // 01's number, 0 if the call ran; a figure comes back through a pointer, 0 where the call is turned back.
+#![tactic(auto)]
+
 ghost use Rattle.std.specs.Prelude.{◌≡◌};
 ghost use Rattle.model.specs.Shape.{low};
 ghost use Rattle.model.specs.Counting.{bit};

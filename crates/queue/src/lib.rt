@@ -1,4 +1,6 @@
 // A queue of vertices in places that are lent: the first k of them hold those in it, in the order of their arrival.
+#![tactic(auto)]
+
 ghost use Rattle.std.specs.Prelude.{◌≡◌, [], ◌∷◌, ◌++◌, suc, ◌-◌, ◌<◌, ◌≤◌, length, get_or, take};
 ghost use Rattle.model.specs.Lists.{Mem, Distinct};
 ghost use Rattle.model.specs.Moves.{without};

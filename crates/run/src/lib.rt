@@ -1,5 +1,7 @@
 // A trace text run to its record. The whole text is read before the rack is made; then each change that was read is made on the rack, and
 // answered by a line straight after the one before it. The rack is made here and stays sound, so no change is audited.
+#![tactic(auto)]
+
 ghost use Rattle.std.specs.Prelude.{◌≡◌, true, ◌≤◌, ◌<◌, length};
 ghost use Rattle.model.specs.Shape.{low};
 ghost use Rattle.model.specs.State.{empty};

@@ -1,5 +1,7 @@
 // Runs of moves on the rack's bytes: a draw, a promotion, the scan after a fall, a taking, and the settling. Beside the rack stands one queue
 // of the vertices that wait, in the order of their arrival: the queue of a level is what it has of that level.
+#![tactic(auto)]
+
 ghost use Rattle.std.specs.Prelude.{◌≡◌, [], ◌∷◌, ◌++◌, suc, ◌^◌, ◌<◌, ◌≤◌, length, take as front};
 ghost use Rattle.model.specs.Shape.{low};
 ghost use Rattle.model.specs.Lists.{All, Mem, Distinct};

@@ -4,14 +4,14 @@ use mathlib.Core.Path.{◌≡◌, refl, sym, ap, subst, ◌∙◌}
 use mathlib.Core.Logic.{◌≢◌, ◌⊎◌, inl, inr}
 use mathlib.Core.Bool.{Bool, true, false}
 use mathlib.Core.List.{List, [], ◌++◌}
-use Prim.Native.Nat.{ℕ, zero, suc, ◌+◌, ◌≤◌, ◌<◌}
+use Prim.Native.Nat.{ℕ, zero, suc, ◌≤◌, ◌<◌}
 use native.Mathlib.Omega.{arith}
 use lib.Dec.{T, le→leb, ltb→lt}
 use lib.ListN.{length, take, drop, length-append, take-append-drop}
 use lib.Seq.{length-take-le}
 use Rattle.model.specs.State.{Rules, State, edge}
 use Rattle.model.specs.Moves.{Run}
-use Rattle.model.specs.Change.{Change, Changed, lower, upper, early, number, done, accepted, runs_out, refused, change}
+use Rattle.model.specs.Change.{Change, Changed, lower, upper, early, done, accepted, runs_out, refused, change}
 use Rattle.model.proofs.Tests.{eq?, true-T, eqb_yes, eqb_no, leb_no}
 use Rattle.theory.proofs.Numbers.{number-early, number-told}
 use Rattle.theory.proofs.ChangeStep.{enough}

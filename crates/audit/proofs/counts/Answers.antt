@@ -1,12 +1,7 @@
 -- `audit::counts` meets its contract. The loop's invariant: the counts of the vertices below v are right. Assumes nothing.
-use Prim.Native.Nat.{ℕ, ◌-◌, ◌≤◌, ◌<◌}
 use native.Mathlib.Omega.{arith}
 use borrow.Author.Count.{below_more}
-use borrow.Author.Tests.{not-true, not-false}
-use Rattle.model.specs.Shape.{low}
 use Rattle.layout.proofs.Said.{said, unsaid, says-yes, says-no}
-use Rattle.audit.specs.Parts.{Counted}
-use borrow.Author.Rules.{rules}
 use Rattle.audit.proofs.counts.Goals as goal
 
 pub loop-v-init : goal.loop-v-init

@@ -1,7 +1,7 @@
 -- `audit::counts_of` meets its contract. The loop's invariant: the counts below j are right by the tally, and the total is the sum of the entries
 -- below j. Assumes nothing.
 use mathlib.Core.Path.{◌≡◌, sym, ap, ◌∙◌}
-use Prim.Native.Nat.{ℕ, suc, ◌+◌, ◌-◌, ◌*◌, ◌≤◌, ◌<◌}
+use Prim.Native.Nat.{ℕ, suc, ◌+◌, ◌*◌, ◌<◌}
 use native.Mathlib.Omega.{arith}
 use lib.ListN.{get_or}
 use borrow.Author.Count.{below_more}
@@ -9,10 +9,9 @@ use Rattle.model.specs.Shape.{low}
 use Rattle.model.proofs.Shapes.{low-good}
 use Rattle.layout.proofs.Said.{says-yes, says-no}
 use Rattle.audit.specs.Tally.{up_to}
-use Rattle.audit.specs.Parts.{Count, Limits}
+use Rattle.audit.specs.Parts.{Limits}
 use Rattle.audit.proofs.Phi.{up_to-one, up_to-suc, up_to-more}
 use Rattle.audit.proofs.Limited.{held_small, count-tested, count_held, count-below, count_none, none-counted}
-use borrow.Author.Rules.{rules}
 use Rattle.audit.proofs.counts_of.Goals.{In-loop-j}
 use Rattle.audit.proofs.counts_of.Goals as goal
 

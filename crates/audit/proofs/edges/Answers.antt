@@ -2,7 +2,6 @@
 use mathlib.Core.Path.{◌≡◌, refl, sym, subst}
 use Prim.Native.Nat.{ℕ, suc, ◌<◌}
 use native.Mathlib.Omega.{arith}
-use borrow.Author.Tests.{not-true, not-false}
 use Rattle.model.specs.Counting.{sum}
 use Rattle.model.specs.Shape.{low}
 use Rattle.model.proofs.Tests.{true-T}
@@ -10,7 +9,6 @@ use Rattle.layout.proofs.Said.{said, unsaid, says-no, says-by}
 use Rattle.audit.specs.Tally.{tallied, up_to, Holds}
 use Rattle.audit.specs.Parts.{Settings, Count}
 use Rattle.audit.proofs.Phi.{up_to-holds, sums-fit, zeros-hold}
-use borrow.Author.Rules.{rules}
 use Rattle.audit.proofs.edges.Goals.{Else-not-all, Else-not-settings}
 use Rattle.audit.proofs.edges.Goals as goal
 

@@ -4,7 +4,6 @@ use Prim.Native.Nat.{ℕ}
 use Rattle.model.specs.Shape.{low}
 use Rattle.model.proofs.Facts.{Mated, eqb-says}
 use Rattle.layout.proofs.Said.{says-no, says-by}
-use borrow.Author.Rules.{rules}
 use Rattle.audit.proofs.mate_of.Goals as goal
 
 pub returns-then-m : goal.returns-then-m

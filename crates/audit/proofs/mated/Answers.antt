@@ -8,7 +8,6 @@ use Rattle.model.specs.Bytes.{owns_at}
 use Rattle.model.proofs.Facts.{self_says}
 use Rattle.layout.proofs.Said.{says-no, says-by, says_is}
 use Rattle.audit.proofs.Linked.{linked-inside, linked-reads}
-use borrow.Author.Rules.{rules}
 use Rattle.audit.proofs.mated.Goals as goal
 
 pub returns-then-n-w : goal.returns-then-n-w

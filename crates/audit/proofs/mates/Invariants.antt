@@ -1,12 +1,7 @@
 -- `audit::mates` meets its contract. The loop's invariant: the mates of the vertices below v are right. Assumes nothing.
 use Prim.Native.Nat.{ℕ, ◌-◌, ◌≤◌, ◌<◌}
-use native.Mathlib.Omega.{arith}
-use borrow.Author.Count.{below_more}
-use borrow.Author.Tests.{not-true, not-false}
 use Rattle.model.specs.Shape.{low}
-use Rattle.layout.proofs.Said.{said, unsaid, says-yes, says-no}
 use Rattle.audit.specs.Parts.{Mate}
-use borrow.Author.Rules.{rules}
 use Rattle.audit.proofs.mates.Given as goal
 
 abbrev pub invariant-loop-v : goal.invariant-loop-v

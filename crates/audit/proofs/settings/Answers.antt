@@ -1,12 +1,10 @@
 -- `audit::settings` meets its contract. Assumes nothing.
 use native.Mathlib.Omega.{arith}
-use borrow.Author.Tests.{not-true, not-false}
 use Rattle.model.specs.Shape.{low}
 use Rattle.model.specs.State.{InRange}
 use Rattle.model.specs.Bytes.{kind_at}
 use Rattle.model.proofs.Facts.{Says, settings_good-says}
 use Rattle.layout.proofs.Said.{said, unsaid, says-no, says-by, says_is}
-use borrow.Author.Rules.{rules}
 use Rattle.audit.proofs.settings.Goals.{After-in_range, Else-not-in_range}
 use Rattle.audit.proofs.settings.Goals as goal
 

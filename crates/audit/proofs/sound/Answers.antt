@@ -4,7 +4,6 @@ use mathlib.Core.Path.{sym, ap, ◌∙◌, subst}
 use mathlib.Core.Bool.{false}
 use Prim.Native.Nat.{◌≤◌}
 use native.Mathlib.Omega.{arith}
-use borrow.Author.Tests.{not-true, not-false}
 use Rattle.model.specs.Counting.{sum}
 use Rattle.model.specs.Shape.{low}
 use Rattle.model.proofs.Shapes.{low-good}
@@ -13,7 +12,6 @@ use Rattle.layout.proofs.Said.{said, unsaid, says-no, says-by}
 use Rattle.audit.specs.Parts.{Edges, Rosters}
 use Rattle.audit.proofs.Enrolled.{enrolled-rank}
 use Rattle.audit.proofs.Whole.{answer, whole, facts-rosters, facts-edges, facts-degrees, facts-mates}
-use borrow.Author.Rules.{rules}
 use Rattle.audit.proofs.sound.Goals.{Else-not-all}
 use Rattle.audit.proofs.sound.Goals as goal
 

@@ -5,7 +5,6 @@ use native.Mathlib.Nat.{one-mul}
 use native.Mathlib.Omega.{arith}
 use lib.Dec.{ltb}
 use lib.Pow.{pow_pos, shl_exact}
-use borrow.Author.Rules.{rules}
 use Rattle.bitset.specs.Words.{Rest}
 use Rattle.bitset.proofs.Sets.{first_rest, all_rest}
 use Rattle.bitset.proofs.first_places.Goals as goal

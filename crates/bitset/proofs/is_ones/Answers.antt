@@ -1,10 +1,6 @@
 -- `bitset::is_ones` meets its contract. The loop's invariant: what is gathered is 255 exactly if the bytes passed in both halves are. Assumes nothing.
-use mathlib.Core.Path.{◌≡◌}
-use Prim.Native.Nat.{◌+◌, ◌<◌, ◌≤◌, ◌-◌}
 use native.Mathlib.Omega.{arith}
-use lib.ListN.{length}
-use Rattle.bitset.proofs.Gathered.{Gathered, gathered-more, gathered-says, and_byte, and-full, full-and}
-use borrow.Author.Rules.{rules}
+use Rattle.bitset.proofs.Gathered.{gathered-more, gathered-says, and_byte, and-full, full-and}
 use Rattle.bitset.proofs.is_ones.Goals as goal
 
 pub loop-i-preserved : goal.loop-i-preserved

@@ -1,10 +1,6 @@
 -- `bitset::is_zero` meets its contract. The loop's invariant: what is gathered is 0 exactly if the bytes passed in both halves are. Assumes nothing.
-use mathlib.Core.Path.{◌≡◌}
-use Prim.Native.Nat.{◌+◌, ◌≤◌, ◌-◌}
 use native.Mathlib.Omega.{arith}
-use lib.ListN.{length}
-use Rattle.bitset.proofs.Gathered.{Gathered, gathered-more, gathered-says, or-zero, zero_or}
-use borrow.Author.Rules.{rules}
+use Rattle.bitset.proofs.Gathered.{gathered-more, gathered-says, or-zero, zero_or}
 use Rattle.bitset.proofs.is_zero.Goals as goal
 
 pub loop-i-preserved : goal.loop-i-preserved

@@ -1,10 +1,8 @@
 -- `bitset::is_zero` meets its contract. The loop's invariant: what is gathered is 0 exactly if the bytes passed in both halves are. Assumes nothing.
 use mathlib.Core.Path.{◌≡◌}
 use Prim.Native.Nat.{◌+◌, ◌≤◌, ◌-◌}
-use native.Mathlib.Omega.{arith}
 use lib.ListN.{length}
-use Rattle.bitset.proofs.Gathered.{Gathered, gathered-more, gathered-says, or-zero, zero_or}
-use borrow.Author.Rules.{rules}
+use Rattle.bitset.proofs.Gathered.{Gathered}
 use Rattle.bitset.proofs.is_zero.Given as goal
 
 abbrev pub invariant-loop-i : goal.invariant-loop-i

@@ -1,15 +1,13 @@
 -- `bitset::nth` meets its contract. The loop's invariant: i is a byte of the row, n its ones, and `left` members are still to pass. Assumes nothing.
 use mathlib.Core.Path.{◌≡◌, sym, subst}
-use Prim.Native.Nat.{◌<◌, ◌+◌, ◌*◌, ◌-◌}
+use Prim.Native.Nat.{◌<◌, ◌+◌, ◌*◌}
 use native.Mathlib.Omega.{arith}
 use lib.Dec.{T}
-use lib.ListN.{length, get_or}
-use lib.Count.{ones}
+use lib.ListN.{length}
 use Rattle.model.specs.Counting.{count}
 use Rattle.bitset.specs.Row.{member}
 use Rattle.model.proofs.Prefix.{count-zero}
 use Rattle.bitset.proofs.Laws.{byte-member, count-in, count-byte, inside}
-use borrow.Author.Rules.{rules}
 use Rattle.bitset.proofs.nth.Goals.{After-shared_slice_known-1, In-loop-n}
 use Rattle.bitset.proofs.nth.Goals as goal
 

@@ -1,15 +1,10 @@
 -- `bitset::nth` meets its contract. The loop's invariant: i is a byte of the row, n its ones, and `left` members are still to pass. Assumes nothing.
-use mathlib.Core.Path.{◌≡◌, sym, subst}
+use mathlib.Core.Path.{◌≡◌}
 use Prim.Native.Nat.{◌<◌, ◌+◌, ◌*◌, ◌-◌}
-use native.Mathlib.Omega.{arith}
-use lib.Dec.{T}
 use lib.ListN.{length, get_or}
 use lib.Count.{ones}
 use Rattle.model.specs.Counting.{count}
 use Rattle.bitset.specs.Row.{member}
-use Rattle.model.proofs.Prefix.{count-zero}
-use Rattle.bitset.proofs.Laws.{byte-member, count-in, count-byte, inside}
-use borrow.Author.Rules.{rules}
 use Rattle.bitset.proofs.nth.Given as goal
 
 abbrev pub invariant-loop-n : goal.invariant-loop-n

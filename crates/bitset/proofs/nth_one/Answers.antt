@@ -1,8 +1,7 @@
 -- `bitset::nth_one` meets its contract. The loop's invariant: `at` is the place of a one of the byte with i ones below it. Assumes nothing.
 use mathlib.Core.Path.{◌≡◌}
-use Prim.Native.Nat.{◌≤◌, ◌<◌, ◌-◌, ◌%◌, ◌^◌, ◌+◌, ◌/◌}
+use Prim.Native.Nat.{◌<◌, ◌%◌, ◌^◌, ◌+◌, ◌/◌}
 use native.Mathlib.Omega.{arith}
-use borrow.Author.Rules.{rules}
 use lib.Count.{ones, count_trailing_zeros}
 use Rattle.bitset.proofs.Digits.{digit, digit-bit_of, next, first}
 use Rattle.bitset.proofs.nth_one.Goals.{In-loop-i}

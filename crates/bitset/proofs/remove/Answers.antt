@@ -1,5 +1,4 @@
 -- `bitset::remove` meets its contract. Assumes nothing.
-use borrow.Author.Rules.{rules}
 use Rattle.bitset.specs.Row.{removed}
 use Rattle.bitset.proofs.Digits.{mask}
 use Rattle.bitset.proofs.Laws.{from_byte, from-bit}

@@ -1,12 +1,8 @@
 -- `bitset::set_word` meets its contract. The loop's invariant: the first j bytes of the word are written. Assumes nothing.
-use mathlib.Core.Path.{◌≡◌, refl, sym, ap, ◌∙◌}
-use mathlib.Core.List.{List}
-use Prim.Native.Nat.{ℕ, ◌+◌, ◌-◌, ◌*◌, ◌/◌, ◌%◌, ◌^◌, ◌≤◌}
-use native.Mathlib.Numerals.{add-one}
-use native.Mathlib.Omega.{arith}
-use lib.ListN.{length, set, length-set}
-use borrow.Author.Rules.{rules}
-use Rattle.bitset.specs.Words.{stored_bytes, stored}
+use mathlib.Core.Path.{◌≡◌}
+use Prim.Native.Nat.{◌-◌, ◌≤◌}
+use lib.ListN.{length}
+use Rattle.bitset.specs.Words.{stored_bytes}
 use Rattle.bitset.proofs.set_word.Given as goal
 
 abbrev pub invariant-loop-j : goal.invariant-loop-j

@@ -1,14 +1,9 @@
 -- `bitset::size` meets its contract. The loop's invariant: the sum is the count of the members in the bytes passed. Assumes nothing.
-use mathlib.Core.Path.{◌≡◌, sym, ap, ◌∙◌}
-use Prim.Native.Nat.{◌≤◌, ◌*◌, ◌-◌, ◌+◌}
-use native.Mathlib.Omega.{arith}
-use borrow.Author.Rules.{rules}
+use mathlib.Core.Path.{◌≡◌}
+use Prim.Native.Nat.{◌≤◌, ◌*◌, ◌-◌}
 use lib.ListN.{length}
 use Rattle.model.specs.Counting.{count}
-use Rattle.bitset.specs.Row.{member, size}
-use Rattle.model.proofs.Counting.{count-bound}
-use Rattle.model.proofs.Prefix.{count-zero}
-use Rattle.bitset.proofs.Laws.{count-byte}
+use Rattle.bitset.specs.Row.{member}
 use Rattle.bitset.proofs.size.Given as goal
 
 abbrev pub invariant-loop-i : goal.invariant-loop-i

@@ -1,15 +1,10 @@
 -- `bitset::size_by_words` meets its contract. The loop's invariant: the sum is the count of the members in the bytes passed, which are
 -- whole words. Assumes nothing.
-use mathlib.Core.Path.{◌≡◌, sym, ap, ◌∙◌}
-use Prim.Native.Nat.{ℕ, ◌≤◌, ◌-◌, ◌+◌, ◌*◌, ◌%◌}
-use native.Mathlib.Omega.{arith}
+use mathlib.Core.Path.{◌≡◌}
+use Prim.Native.Nat.{◌≤◌, ◌-◌, ◌*◌, ◌%◌}
 use lib.ListN.{length}
 use Rattle.model.specs.Counting.{count}
-use Rattle.model.proofs.Counting.{count-bound}
-use Rattle.model.proofs.Prefix.{count-zero, count_add}
-use Rattle.bitset.specs.Row.{member, size}
-use Rattle.bitset.proofs.Words.{rest-count}
-use borrow.Author.Rules.{rules}
+use Rattle.bitset.specs.Row.{member}
 use Rattle.bitset.proofs.size_by_words.Given as goal
 
 abbrev pub invariant-loop-i : goal.invariant-loop-i

@@ -1,6 +1,5 @@
 -- `bitset::word` meets its contract: the bytes joined are the word. Assumes nothing.
 use Rattle.bitset.proofs.Words.{word-rest}
-use borrow.Author.Rules.{rules}
 use Rattle.bitset.proofs.word.Goals as goal
 
 pub returns : goal.returns

@@ -4,7 +4,6 @@ use Rattle.model.specs.Bytes.{read}
 use Rattle.model.specs.Change.{Change}
 use Rattle.changes.specs.Sounded.{brought, Acceptable}
 use Rattle.changes.proofs.Answered.{in_order, adds_run, drops-run}
-use borrow.Author.Rules.{rules}
 use Rattle.changes.proofs.accepted.Goals.{After-upper-high, Start}
 use Rattle.changes.proofs.accepted.Goals as goal
 

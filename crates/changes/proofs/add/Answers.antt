@@ -10,7 +10,6 @@ use Rattle.model.specs.Change.{riser}
 use Rattle.edges.specs.Steps.{reached_by}
 use Rattle.changes.proofs.Wholes.{sounded-held, Added, added-begun, added-inside, added-drops, added_none, added-riser, added-enough, added-made, added-back}
 use Rattle.changes.proofs.Trials.{enough-yes, tried-made}
-use borrow.Author.Rules.{rules}
 use Rattle.changes.proofs.add.Goals.{After-add_edge, In-At}
 use Rattle.changes.proofs.add.Goals as goal
 

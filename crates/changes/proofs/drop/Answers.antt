@@ -9,7 +9,6 @@ use Rattle.moves.proofs.Held.{held-sized, held_small}
 use Rattle.changes.specs.Working.{Joins}
 use Rattle.changes.proofs.Wholes.{sounded-held, Dropped, dropped-begun, dropped-inside, dropped-mates, dropped-pair, dropped-loose, joins, loose, pair-rank, pair-enough, pair-tried}
 use Rattle.changes.proofs.Trials.{enough-yes, tried-made}
-use borrow.Author.Rules.{rules}
 use Rattle.changes.proofs.drop.Goals.{After-drop_edge-then-enough, After-rank, Else-mate-b}
 use Rattle.changes.proofs.drop.Goals as goal
 

@@ -10,7 +10,6 @@ use Rattle.model.specs.Change.{Change}
 use Rattle.moves.proofs.Held.{held-sized, held_small, held-size}
 use Rattle.changes.specs.Sounded.{brought, ends_number, link_number, first}
 use Rattle.changes.proofs.Numbers.{ends-are, first-is, first_next, first-zero, of_named, early-is, edge-held}
-use borrow.Author.Rules.{rules}
 use Rattle.changes.proofs.number.Goals.{After-first-named, After-size-n, Else-named-ne0, Start}
 use Rattle.changes.proofs.number.Goals as goal
 

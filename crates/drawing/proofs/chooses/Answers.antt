@@ -3,7 +3,6 @@ use mathlib.Core.Path.{sym, ap}
 use native.Mathlib.Omega.{arith}
 use lib.Dec.{ltb}
 use Rattle.model.specs.Words.{chooses}
-use borrow.Author.Rules.{rules}
 use Rattle.drawing.proofs.Certain.{sure, limit_is, limit-fits, below-sure}
 use Rattle.drawing.proofs.chooses.Goals as goal
 

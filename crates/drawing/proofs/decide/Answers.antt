@@ -1,11 +1,9 @@
 -- `drawing::decide` meets its contract. Assumes nothing.
-use mathlib.Core.Path.{◌≡◌, refl, sym, ◌∙◌}
-use Prim.Native.Nat.{◌-◌, ◌≤◌}
+use mathlib.Core.Path.{refl, sym, ◌∙◌}
+use Prim.Native.Nat.{◌≤◌}
 use native.Mathlib.Omega.{arith}
 use lib.ListN.{length}
-use Rattle.model.specs.Words.{deciding}
 use Rattle.model.proofs.Deciding.{deciding-here, deciding-next, deciding-past, place_of, place-past}
-use borrow.Author.Rules.{rules}
 use Rattle.drawing.proofs.decide.Goals as goal
 
 pub loop-j-init : goal.loop-j-init

@@ -1,11 +1,8 @@
 -- `drawing::decide` meets its contract. Assumes nothing.
-use mathlib.Core.Path.{◌≡◌, refl, sym, ◌∙◌}
-use Prim.Native.Nat.{◌-◌, ◌≤◌}
-use native.Mathlib.Omega.{arith}
+use mathlib.Core.Path.{◌≡◌}
+use Prim.Native.Nat.{◌-◌}
 use lib.ListN.{length}
 use Rattle.model.specs.Words.{deciding}
-use Rattle.model.proofs.Deciding.{deciding-here, deciding-next, deciding-past, place_of, place-past}
-use borrow.Author.Rules.{rules}
 use Rattle.drawing.proofs.decide.Given as goal
 
 -- what decides is the same from the word at hand on

@@ -1,8 +1,6 @@
 -- `drawing::sure` meets its contract. Assumes nothing.
-use Prim.Native.Nat.{◌-◌}
 use native.Mathlib.Omega.{arith}
-use borrow.Author.Rules.{rules}
-use Rattle.drawing.proofs.Certain.{NoneLarge, large-next, none-next, sure-of}
+use Rattle.drawing.proofs.Certain.{large-next, none-next, sure-of}
 use Rattle.drawing.proofs.sure.Goals.{then-words-j-ge-SURE, else-words-j-ge-SURE}
 use Rattle.drawing.proofs.sure.Goals as goal
 

@@ -1,9 +1,6 @@
 -- `drawing::sure` meets its contract. Assumes nothing.
-use mathlib.Core.Logic.{⊎_elim}
 use Prim.Native.Nat.{◌-◌}
-use native.Mathlib.Omega.{arith}
-use borrow.Author.Rules.{rules}
-use Rattle.drawing.proofs.Certain.{NoneLarge, large-next, none-next, sure-of}
+use Rattle.drawing.proofs.Certain.{NoneLarge}
 use Rattle.drawing.proofs.sure.Given as goal
 
 abbrev pub invariant-loop-j : goal.invariant-loop-j

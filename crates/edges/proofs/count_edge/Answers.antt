@@ -4,7 +4,6 @@ use mathlib.Core.Bool.{Bool}
 use mathlib.Core.List.{List}
 use Prim.Native.Nat.{ℕ, suc, ◌-◌}
 use native.Mathlib.Omega.{arith}
-use borrow.Author.Rules.{rules}
 use Rattle.model.specs.Shape.{low}
 use Rattle.model.specs.Bytes.{edges_at, top_at, phi_at}
 use Rattle.layout.specs.Setters.{set_edges}

@@ -10,8 +10,7 @@ use Rattle.model.specs.State.{State}
 use Rattle.model.specs.Bytes.{growth_at, top_at, rules_at, phi_at, phi_entry, read}
 use Rattle.moves.specs.Proper.{Held}
 use Rattle.moves.proofs.Held.{proper-ranks, held-sized, held-range, held-room, held_small, held-rank}
-use Rattle.edges.proofs.Search.{held-entry, search-ends, Above, Left, search-starts, search-a, search-b, search-on}
-use borrow.Author.Rules.{rules}
+use Rattle.edges.proofs.Search.{held-entry, search-ends, Above, search-starts, search-a, search-b, search-on}
 use Rattle.edges.proofs.riser.Goals.{At-loop-j, Else-bars-j, Else-j-low}
 use Rattle.edges.proofs.riser.Goals as goal
 

@@ -3,7 +3,6 @@ use mathlib.Core.Path.{refl}
 use Rattle.model.specs.Shape.{low}
 use Rattle.model.specs.Calls.{audit}
 use Rattle.engine.proofs.Numbers.{flag_off, flag-on, sized-length}
-use borrow.Author.Rules.{rules}
 use Rattle.engine.proofs.audit.Goals as goal
 
 pub returns-then-not-sized : goal.returns-then-not-sized

@@ -6,7 +6,6 @@ use Rattle.model.specs.Change.{Change}
 use Rattle.model.proofs.Shapes.{low-good}
 use Rattle.engine.proofs.Changing.{turned-is, sounded, ran-is}
 use Rattle.changes.specs.Sounded.{Sounded, brought}
-use borrow.Author.Rules.{rules}
 use Rattle.engine.proofs.change.Goals.{Else-k-ne0, Start}
 use Rattle.engine.proofs.change.Goals as goal
 

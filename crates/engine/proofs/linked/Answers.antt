@@ -5,7 +5,6 @@ use Rattle.model.specs.State.{edge}
 use Rattle.model.specs.Bytes.{read}
 use Rattle.model.specs.Calls.{linked_query, two_number}
 use Rattle.engine.proofs.Numbers.{told, none_told, asked-two, linked-edge}
-use borrow.Author.Rules.{rules}
 use Rattle.engine.proofs.linked.Goals.{After-linked, Else-k-ne0}
 use Rattle.engine.proofs.linked.Goals as goal
 

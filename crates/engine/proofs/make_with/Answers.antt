@@ -12,7 +12,6 @@ use Rattle.model.specs.Calls.{sized}
 use Rattle.model.proofs.Tests.{true-T}
 use Rattle.model.proofs.Facts.{settings_good-says}
 use Rattle.engine.proofs.Numbers.{flag_off, flag-on, asked-five, asked-thirteen, asked-none, make-one, make-back, make-new, sized-length, few-bad, many-bad, few-good}
-use borrow.Author.Rules.{rules}
 use Rattle.engine.proofs.make_with.Goals.{Else-n-gt-MOST, Else-not-in_range, Else-not-sized, Start}
 use Rattle.engine.proofs.make_with.Goals as goal
 

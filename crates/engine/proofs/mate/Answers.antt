@@ -3,7 +3,6 @@ use mathlib.Core.Path.{refl, sym, ◌∙◌}
 use Rattle.model.specs.Shape.{low}
 use Rattle.model.specs.Calls.{mate_query}
 use Rattle.engine.proofs.Numbers.{told, none_told, asked}
-use borrow.Author.Rules.{rules}
 use Rattle.engine.proofs.mate.Goals as goal
 
 pub returns-then-k-ne0 : goal.returns-then-k-ne0

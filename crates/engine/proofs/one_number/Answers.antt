@@ -4,7 +4,6 @@ use native.Mathlib.Omega.{arith}
 use Rattle.model.specs.Shape.{low}
 use Rattle.model.specs.Calls.{rack_number}
 use Rattle.engine.proofs.Numbers.{one-back, one-eight, one-zero, rack-good, sized-length}
-use borrow.Author.Rules.{rules}
 use Rattle.engine.proofs.one_number.Goals.{Else-k-ne0}
 use Rattle.engine.proofs.one_number.Goals as goal
 

@@ -4,7 +4,6 @@ use mathlib.Core.Bool.{true}
 use Rattle.model.specs.Shape.{low}
 use Rattle.model.specs.Calls.{sized}
 use Rattle.engine.proofs.Numbers.{flag_off, flag-on, rack-one, rack-six, rack-zero, sized-length}
-use borrow.Author.Rules.{rules}
 use Rattle.engine.proofs.rack_number.Goals.{Else-not-sized}
 use Rattle.engine.proofs.rack_number.Goals as goal
 

@@ -4,7 +4,6 @@ use native.Mathlib.Omega.{arith}
 use Rattle.model.specs.Shape.{low}
 use Rattle.model.specs.Calls.{one_number}
 use Rattle.engine.proofs.Numbers.{two_back, two-eight, two-nine, two-zero, one-good, rack-good, sized-length}
-use borrow.Author.Rules.{rules}
 use Rattle.engine.proofs.two_number.Goals.{Else-k-ne0}
 use Rattle.engine.proofs.two_number.Goals as goal
 

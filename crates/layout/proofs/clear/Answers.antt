@@ -5,7 +5,6 @@ use Prim.Native.Nat.{ℕ}
 use lib.ListN.{set}
 use Rattle.model.specs.State.{low_with}
 use Rattle.layout.proofs.Cleared.{settled}
-use borrow.Author.Rules.{rules}
 use Rattle.layout.proofs.clear.Goals as goal
 
 pub returns : goal.returns

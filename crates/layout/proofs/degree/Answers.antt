@@ -3,7 +3,6 @@ use mathlib.Core.Path.{◌∙◌}
 use Rattle.model.specs.Bytes.{owns_at}
 use Rattle.layout.specs.Rows.{degree_at}
 use Rattle.layout.proofs.Rows.{row_count}
-use borrow.Author.Rules.{rules}
 use Rattle.layout.proofs.degree.Goals as goal
 
 pub returns : goal.returns

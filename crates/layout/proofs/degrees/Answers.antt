@@ -2,7 +2,6 @@
 use mathlib.Core.Path.{◌∙◌}
 use Rattle.model.proofs.Shapes.{low-good}
 use Rattle.layout.proofs.Spans.{size-rows}
-use borrow.Author.Rules.{rules}
 use Rattle.layout.proofs.degrees.Goals as goal
 
 pub returns : goal.returns

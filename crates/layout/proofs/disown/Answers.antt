@@ -2,7 +2,6 @@
 use mathlib.Core.Path.{◌∙◌, ap}
 use Prim.Native.Nat.{ℕ, ◌+◌, ◌*◌}
 use Rattle.bitset.specs.Row.{removed}
-use borrow.Author.Rules.{rules}
 use Rattle.layout.proofs.disown.Goals as goal
 
 pub returns : goal.returns

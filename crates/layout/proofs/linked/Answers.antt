@@ -1,7 +1,6 @@
 -- `layout::linked` meets its contract: the second owner is asked where the first is none. Assumes nothing.
 use mathlib.Core.Path.{sym, ap, ◌∙◌}
 use mathlib.Core.Bool.{Bool, ◌||◌}
-use borrow.Author.Rules.{rules}
 use Rattle.model.specs.Shape.{low}
 use Rattle.model.specs.Bytes.{owns_at}
 use Rattle.layout.proofs.linked.Goals as goal

@@ -2,7 +2,6 @@
 use native.Mathlib.Omega.{arith}
 use Rattle.model.proofs.Shapes.{low-good}
 use Rattle.layout.proofs.Rows.{row-length, row-degree, row-nth}
-use borrow.Author.Rules.{rules}
 use Rattle.layout.proofs.nth_owned.Goals as goal
 
 pub nth-requires : goal.nth-requires

@@ -3,7 +3,6 @@ use mathlib.Core.Path.{◌∙◌}
 use native.Mathlib.Omega.{arith}
 use Rattle.model.proofs.Shapes.{low-good}
 use Rattle.layout.proofs.Rows.{row-length, row-owns}
-use borrow.Author.Rules.{rules}
 use Rattle.layout.proofs.owns.Goals as goal
 
 pub test-requires : goal.test-requires

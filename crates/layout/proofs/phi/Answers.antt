@@ -2,7 +2,6 @@
 use mathlib.Core.Path.{ap}
 use Rattle.model.specs.Bytes.{phi_at}
 use Rattle.model.specs.Parts.{num_at}
-use borrow.Author.Rules.{rules}
 use Rattle.layout.proofs.phi.Goals as goal
 
 pub returns : goal.returns

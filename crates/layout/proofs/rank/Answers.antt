@@ -5,7 +5,6 @@ use Prim.Native.Nat.{ℕ, ◌+◌}
 use lib.ListN.{get_or}
 use Rattle.model.specs.Shape.{ranks_from}
 use Rattle.model.specs.Bytes.{rank_at}
-use borrow.Author.Rules.{rules}
 use Rattle.layout.proofs.rank.Goals as goal
 
 pub returns : goal.returns

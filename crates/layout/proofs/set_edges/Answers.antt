@@ -4,7 +4,6 @@ use Prim.Native.Nat.{◌%◌}
 use native.Mathlib.Omega.{arith}
 use Rattle.model.specs.Bytes.{half}
 use Rattle.layout.specs.Setters.{set_num, set_edges}
-use borrow.Author.Rules.{rules}
 use Rattle.layout.proofs.set_edges.Goals as goal
 
 pub returns : goal.returns

@@ -4,7 +4,6 @@ use Prim.Native.Nat.{ℕ}
 use native.Mathlib.Omega.{arith}
 use lib.ListN.{length-set}
 use Rattle.layout.specs.Setters.{set_num, set_mate}
-use borrow.Author.Rules.{rules}
 use Rattle.layout.proofs.set_mate.Goals as goal
 
 pub bounds-rack-at-2 : goal.bounds-rack-at-2

@@ -2,7 +2,6 @@
 use mathlib.Core.Path.{ap}
 use Prim.Native.Nat.{ℕ}
 use Rattle.layout.specs.Setters.{set_num, set_phi}
-use borrow.Author.Rules.{rules}
 use Rattle.layout.proofs.set_phi.Goals as goal
 
 pub returns : goal.returns

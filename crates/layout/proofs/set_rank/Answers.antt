@@ -8,7 +8,6 @@ use Rattle.model.specs.Shape.{low, rosters_from}
 use Rattle.model.specs.Bytes.{rank_at}
 use Rattle.bitset.specs.Row.{inserted, removed}
 use Rattle.layout.specs.Setters.{place_in, set_rank}
-use borrow.Author.Rules.{rules}
 use Rattle.layout.proofs.set_rank.Goals.{After-insert}
 use Rattle.layout.proofs.set_rank.Goals as goal
 

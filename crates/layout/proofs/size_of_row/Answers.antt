@@ -7,7 +7,6 @@ use Rattle.model.specs.Shape.{low}
 use Rattle.model.proofs.Counting.{count-bound}
 use Rattle.bitset.specs.Row.{member}
 use Rattle.layout.proofs.Rows.{halves}
-use borrow.Author.Rules.{rules}
 use Rattle.layout.proofs.size_of_row.Goals.{After-size-2}
 use Rattle.layout.proofs.size_of_row.Goals as goal
 

@@ -1,12 +1,12 @@
 -- `moves::hand_over` meets its contract. The loop's invariant: the words before word k are done. Assumes nothing.
 use mathlib.Core.Path.{◌≡◌, sym, ◌∙◌}
-use Prim.Native.Nat.{◌-◌, ◌*◌, ◌≤◌, ◌<◌}
+use Prim.Native.Nat.{◌*◌, ◌≤◌, ◌<◌}
 use native.Mathlib.Omega.{arith}
 use Rattle.model.specs.Shape.{low}
 use Rattle.model.specs.State.{State}
 use Rattle.model.specs.Bytes.{read}
 use Rattle.moves.proofs.Held.{held-sized, held-size}
-use Rattle.moves.proofs.HandWords.{Over, over-start, over-held, over-asks, over-next, over-bytes, over-numbers}
+use Rattle.moves.proofs.HandWords.{over-start, over-held, over-asks, over-next, over-bytes, over-numbers}
 use Rattle.moves.proofs.hand_over.Goals.{At-loop-k, In-loop-k, Start}
 use Rattle.moves.proofs.hand_over.Goals as goal
 

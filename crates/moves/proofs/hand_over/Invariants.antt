@@ -1,12 +1,8 @@
 -- `moves::hand_over` meets its contract. The loop's invariant: the words before word k are done. Assumes nothing.
-use mathlib.Core.Path.{◌≡◌, sym, ◌∙◌}
-use Prim.Native.Nat.{◌-◌, ◌*◌, ◌≤◌, ◌<◌}
-use native.Mathlib.Omega.{arith}
+use Prim.Native.Nat.{◌-◌, ◌*◌}
 use Rattle.model.specs.Shape.{low}
-use Rattle.model.specs.State.{State}
 use Rattle.model.specs.Bytes.{read}
-use Rattle.moves.proofs.Held.{held-sized, held-size}
-use Rattle.moves.proofs.HandWords.{Over, over-start, over-held, over-asks, over-next, over-bytes, over-numbers}
+use Rattle.moves.proofs.HandWords.{Over}
 use Rattle.moves.proofs.hand_over.Given as goal
 
 abbrev pub invariant-loop-k : goal.invariant-loop-k

@@ -2,12 +2,11 @@
 -- those from there on. Assumes nothing.
 use mathlib.Core.Path.{◌≡◌, sym, ap, ◌∙◌, subst}
 use mathlib.Core.Bool.{◌&&◌}
-use Prim.Native.Nat.{ℕ, suc, ◌+◌, ◌-◌, ◌*◌, ◌≤◌, ◌<◌}
+use Prim.Native.Nat.{ℕ, suc, ◌+◌, ◌*◌, ◌≤◌, ◌<◌}
 use native.Mathlib.Omega.{arith}
 use lib.Dec.{ltb, eqb}
 use lib.Bits.{bit_and, bit_xor}
 use lib.Count.{ones, count_trailing_zeros}
-use borrow.Author.Rules.{rules}
 use Rattle.model.specs.Counting.{count}
 use Rattle.model.specs.Shape.{low}
 use Rattle.model.specs.State.{State}
@@ -17,7 +16,7 @@ use Rattle.bitset.proofs.Words.{dropped-less, rest-count}
 use Rattle.bitset.proofs.Sets.{rest-ext}
 use Rattle.layout.specs.Setters.{Sized, own}
 use Rattle.moves.proofs.Held.{held-room, proper-ranks, held-sized, held_small, held-owns, held-roster}
-use Rattle.moves.proofs.HandWord.{goes, stays, Handing, word-goes, word-stays, handing-start, handing-sized, handing-turn, handing-next}
+use Rattle.moves.proofs.HandWord.{goes, stays, word-goes, word-stays, handing-start, handing-sized, handing-turn, handing-next}
 use Rattle.moves.proofs.HandWord.{handing-bytes, empty-numbers, empty-handed}
 use Rattle.moves.proofs.hand_word.Goals.{After-word, After-word-row, At-loop-x, In-loop-x, Start}
 use Rattle.moves.proofs.hand_word.Goals as goal

@@ -1,11 +1,9 @@
 -- `moves::lower_counts` meets its contract. The loop's invariant: the vertices of u's row that the walk has passed have their new counts.
 -- Assumes nothing.
 use mathlib.Core.Path.{◌≡◌, ◌∙◌}
-use mathlib.Core.Logic.{⊎_elim}
-use Prim.Native.Nat.{ℕ, ◌-◌, ◌≤◌, ◌<◌}
+use Prim.Native.Nat.{ℕ, ◌≤◌, ◌<◌}
 use native.Mathlib.Omega.{arith}
 use lib.Dec.{T}
-use borrow.Author.Rules.{rules}
 use Rattle.model.specs.Counting.{upd}
 use Rattle.model.specs.Shape.{low}
 use Rattle.model.specs.State.{State}
@@ -18,7 +16,7 @@ use Rattle.moves.proofs.Choices.{hit-of}
 use Rattle.model.proofs.Shapes.{low-good}
 use Rattle.layout.proofs.Walks.{row-whole}
 use Rattle.layout.proofs.Reached.{reached, further-less}
-use Rattle.moves.proofs.CountWalk.{Counted, counted-sized, counted-rank, counted-phi, RowCounted, Walk, u-small, row-starts, w-reached, w-small, w-owned, w-sized, row-goes-on, row_ends, same_size, row_low, lowered-quiet, lowered-turn}
+use Rattle.moves.proofs.CountWalk.{Counted, counted-sized, counted-rank, counted-phi, Walk, u-small, row-starts, w-reached, w-small, w-owned, w-sized, row-goes-on, row_ends, same_size, row_low, lowered-quiet, lowered-turn}
 use Rattle.moves.proofs.lower_counts.Goals.{After-place-w, After-rank-r, At-loop-at, In-loop-at, Joined-r-from, Start, else-r-from, then-r-from}
 use Rattle.moves.proofs.lower_counts.Goals as goal
 

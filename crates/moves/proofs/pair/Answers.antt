@@ -1,5 +1,4 @@
 -- `moves::pair` meets its contract: the entries of both ends are set. Assumes nothing.
-use borrow.Author.Rules.{rules}
 use mathlib.Core.Path.{ap, ◌∙◌}
 use mathlib.Core.List.{List}
 use Prim.Native.Nat.{ℕ}

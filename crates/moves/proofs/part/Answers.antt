@@ -1,5 +1,4 @@
 -- `moves::part` meets its contract. The entry of v's mate tells whether v is free. Assumes nothing.
-use borrow.Author.Rules.{rules}
 use mathlib.Core.Path.{◌≡◌, sym, ap, ap₂, ◌∙◌}
 use mathlib.Core.Logic.{◌≢◌}
 use mathlib.Core.List.{List}

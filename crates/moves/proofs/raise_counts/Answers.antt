@@ -1,8 +1,7 @@
 -- `moves::raise_counts` meets its contract. The loop's invariant: the vertices of v's row that the walk has passed have their new counts, and
 -- `low` says that these are below the bar. Assumes nothing.
 use mathlib.Core.Path.{◌≡◌}
-use mathlib.Core.Logic.{⊎_elim}
-use Prim.Native.Nat.{◌+◌, ◌-◌, ◌<◌}
+use Prim.Native.Nat.{◌+◌, ◌<◌}
 use native.Mathlib.Omega.{arith}
 use lib.Dec.{T}
 use Rattle.model.specs.Counting.{upd}
@@ -18,7 +17,7 @@ use Rattle.moves.proofs.Recount.{raised-fits}
 use Rattle.model.proofs.Shapes.{low-good}
 use Rattle.layout.proofs.Walks.{row-whole}
 use Rattle.layout.proofs.Reached.{reached, further-less}
-use Rattle.moves.proofs.CountWalk.{Counted, counted-sized, RowCounted, Walk, u-small, came-first, row-starts, w-reached, w-small, w-owned, w-sized, came-next, row-goes-on, row_ends, same_size, raised-quiet, raised_is, raised-turn, LowTo, low-start, low-yes, low-no, low_end}
+use Rattle.moves.proofs.CountWalk.{Counted, counted-sized, Walk, u-small, came-first, row-starts, w-reached, w-small, w-owned, w-sized, came-next, row-goes-on, row_ends, same_size, raised-quiet, raised_is, raised-turn, LowTo, low-start, low-yes, low-no, low_end}
 use Rattle.moves.proofs.raise_counts.Goals.{After-next-at, After-phi-c, After-place-w, After-set_phi, At-loop-at, In-loop-at, Start, else-bar-c, then-bar-c}
 use Rattle.moves.proofs.raise_counts.Goals as goal
 

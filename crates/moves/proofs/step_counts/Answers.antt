@@ -1,10 +1,8 @@
 -- `moves::step_counts` meets its contract. The loop's invariant: the counts at the first x levels have been stepped. Assumes nothing.
 use mathlib.Core.Path.{◌≡◌, refl, sym, ap, ◌∙◌, subst}
 use mathlib.Core.Bool.{Bool}
-use Prim.Native.Nat.{◌+◌, ◌-◌, ◌≤◌}
+use Prim.Native.Nat.{◌+◌}
 use native.Mathlib.Omega.{arith}
-use lib.ListN.{length}
-use borrow.Author.Rules.{rules}
 use Rattle.model.specs.Shape.{low}
 use Rattle.moves.specs.Counts.{step, CanStep, largest_count, recounted}
 use Rattle.moves.proofs.CountSteps.{step-wider, step-below, next-count, next_level}

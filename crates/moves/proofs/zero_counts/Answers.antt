@@ -1,9 +1,6 @@
 -- `moves::zero_counts` meets its contract. The loop's invariant: the counts below level j are 0. Assumes nothing.
 use mathlib.Core.Path.{◌≡◌, refl, ap, ◌∙◌}
-use Prim.Native.Nat.{◌-◌, ◌≤◌}
 use native.Mathlib.Omega.{arith}
-use lib.ListN.{length}
-use borrow.Author.Rules.{rules}
 use Rattle.model.specs.Shape.{low}
 use Rattle.moves.specs.Counts.{recounted, none}
 use Rattle.moves.proofs.CountSteps.{next_level}

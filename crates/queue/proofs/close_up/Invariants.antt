@@ -1,11 +1,7 @@
 -- `queue::close_up` meets its contract. The loop's invariant is `MovingUp`: what is still to move up gives the list that is wanted.
 -- Assumes nothing.
-use mathlib.Core.Path.{refl}
 use Prim.Native.Nat.{◌-◌}
-use native.Mathlib.Numerals.{add-one}
-use native.Mathlib.Omega.{arith}
-use borrow.Author.Rules.{rules}
-use Rattle.queue.proofs.Places.{MovingUp, moved_up, all_up}
+use Rattle.queue.proofs.Places.{MovingUp}
 use Rattle.queue.proofs.close_up.Given as goal
 
 abbrev pub invariant-loop-j : goal.invariant-loop-j

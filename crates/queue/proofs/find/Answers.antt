@@ -1,9 +1,8 @@
 -- `queue::find` meets its contract. The loop's invariant: v does not stand before `at`. Assumes nothing.
 use mathlib.Core.Path.{◌∙◌}
-use mathlib.Core.Logic.{◌≢◌}
-use Prim.Native.Nat.{ℕ, ◌-◌, ◌<◌}
+use Prim.Native.Nat.{◌<◌}
 use native.Mathlib.Omega.{arith}
-use lib.ListN.{length, get_or, take}
+use lib.ListN.{length, take}
 use borrow.Author.Rules.{rules}
 use Rattle.queue.proofs.Places.{ahead, first-at, first_short, not-before}
 use Rattle.queue.proofs.find.Goals.{At-loop-at}

@@ -1,11 +1,7 @@
 -- `queue::find` meets its contract. The loop's invariant: v does not stand before `at`. Assumes nothing.
-use mathlib.Core.Path.{◌∙◌}
 use mathlib.Core.Logic.{◌≢◌}
 use Prim.Native.Nat.{ℕ, ◌-◌, ◌<◌}
-use native.Mathlib.Omega.{arith}
 use lib.ListN.{length, get_or, take}
-use borrow.Author.Rules.{rules}
-use Rattle.queue.proofs.Places.{ahead, first-at, first_short, not-before}
 use Rattle.queue.proofs.find.Given as goal
 
 abbrev pub invariant-loop-at : goal.invariant-loop-at

@@ -1,5 +1,4 @@
 -- `queue::join` meets its contract. Assumes nothing.
-use borrow.Author.Rules.{rules}
 use Rattle.queue.proofs.Places.{take-end}
 use Rattle.queue.proofs.join.Goals as goal
 

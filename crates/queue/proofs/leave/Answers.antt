@@ -4,7 +4,6 @@ use mathlib.Core.List.{List}
 use Prim.Native.Nat.{ℕ}
 use native.Mathlib.Omega.{arith}
 use lib.ListN.{take}
-use borrow.Author.Rules.{rules}
 use Rattle.model.specs.Moves.{without}
 use Rattle.queue.proofs.Places.{first_short, removed-without}
 use Rattle.queue.proofs.leave.Goals as goal

@@ -9,7 +9,6 @@ use Rattle.lines.specs.Clauses.{named_by}
 use Rattle.lines.specs.declared.Settings.{Settings}
 use Rattle.lines.specs.declared.Settings.TheVariants.{Short, Long}
 use Rattle.run.specs.Recording.{kind_named}
-use borrow.Author.Rules.{rules}
 use Rattle.run.proofs.make.Goals as goal
 
 -- the kind that each form of line 1 asks for

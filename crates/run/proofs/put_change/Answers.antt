@@ -3,7 +3,6 @@ use native.Mathlib.Omega.{arith}
 use Rattle.trace.proofs.RecordFits.{draws-few}
 use Rattle.changes.specs.Sounded.{brought}
 use Rattle.run.proofs.Turns.{sounded-valid, line_as}
-use borrow.Author.Rules.{rules}
 use Rattle.run.proofs.put_change.Goals as goal
 
 -- the draws fit the record's figure

@@ -10,7 +10,6 @@ use Rattle.text.proofs.Over.{put_then, put-kept, length_part}
 use Rattle.trace.proofs.Bound.{Small, pairs-most, end-most}
 use Rattle.trace.proofs.RecordFits.{valid-small}
 use Rattle.run.specs.Recording.{ending_text}
-use borrow.Author.Rules.{rules}
 use Rattle.run.proofs.Turns.{sounded-valid}
 use Rattle.run.proofs.put_ending.Goals.{After-put_pairs-at}
 use Rattle.run.proofs.put_ending.Goals as goal

@@ -8,7 +8,6 @@ use Rattle.text.specs.Writing.{Put}
 use Rattle.text.proofs.Over.{put_as}
 use Rattle.lines.specs.Clauses.{named_by}
 use Rattle.lines.specs.declared.Settings.{Settings}
-use borrow.Author.Rules.{rules}
 use Rattle.run.proofs.put_first.Goals as goal
 
 -- the line that was printed is that of the settings, which are x

@@ -12,7 +12,6 @@ use Rattle.text.specs.Writing.{Put}
 use Rattle.text.proofs.Over.{put_as}
 use Rattle.moves.proofs.Held.{held-sized, held-size, held-edges, held-few}
 use Rattle.changes.proofs.Wholes.{sounded-held}
-use borrow.Author.Rules.{rules}
 use Rattle.run.proofs.put_last.Goals.{After-edges, After-size-n}
 use Rattle.run.proofs.put_last.Goals as goal
 

@@ -10,7 +10,6 @@ use Rattle.text.proofs.Over.{put_as, put-none}
 use Rattle.moves.proofs.Held.{held-sized, held_small}
 use Rattle.changes.proofs.Wholes.{sounded-held}
 use Rattle.run.proofs.Pairs.{part_free, part-upper, part-rank, put-part}
-use borrow.Author.Rules.{rules}
 use Rattle.run.proofs.put_lower.Goals.{Else-m-v, Start}
 use Rattle.run.proofs.put_lower.Goals as goal
 

@@ -11,7 +11,6 @@ use Rattle.text.proofs.Over.{put-kept}
 use Rattle.changes.specs.Sounded.{Sounded}
 use Rattle.run.specs.Recording.{kind_named}
 use Rattle.run.proofs.Whole.{fresh, first-room, ready, written, record-within}
-use borrow.Author.Rules.{rules}
 use Rattle.run.proofs.put_record.Goals.{After-put_first-at, After-slice_known-5-1, Start}
 use Rattle.run.proofs.put_record.Goals as goal
 

@@ -7,7 +7,6 @@ use Rattle.model.specs.Calls.{sized}
 use Rattle.model.specs.Run.{rack-length, text-long, space-short, bad-line}
 use Rattle.trace.specs.Check.{Checks}
 use Rattle.run.proofs.Whole.{ran-back, Lent, took-blank, recordable, took}
-use borrow.Author.Rules.{rules}
 use Rattle.run.proofs.run.Goals.{Else-not-sized, Else-space-lt-RECORD_SPACE}
 use Rattle.run.proofs.run.Goals as goal
 

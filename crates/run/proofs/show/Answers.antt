@@ -5,7 +5,6 @@ use native.Mathlib.Omega.{arith}
 use lib.ListN.{length}
 use Rattle.model.specs.Run.{space_length}
 use Rattle.run.proofs.Once.{line-few, shown-record, shown-back}
-use borrow.Author.Rules.{rules}
 use Rattle.run.proofs.show.Goals.{After-run-answer}
 use Rattle.run.proofs.show.Goals as goal
 

@@ -7,7 +7,6 @@ use Rattle.model.specs.Calls.{asked_number}
 use Rattle.lines.specs.Clauses.{named_by}
 use Rattle.run.specs.Recording.{kind_named}
 use Rattle.run.proofs.Whole.{made-back, made-new, took-back, took-record}
-use borrow.Author.Rules.{rules}
 use Rattle.run.proofs.taken.Goals.{After-make-k, Else-k-ne0}
 use Rattle.run.proofs.taken.Goals as goal
 

@@ -1,7 +1,6 @@
 -- `settling::fall` meets its contract. Assumes nothing.
 use Prim.Native.Nat.{◌≤◌}
 use native.Mathlib.Omega.{arith}
-use borrow.Author.Rules.{rules}
 use Rattle.model.specs.Shape.{low}
 use Rattle.model.proofs.Tests.{true-T}
 use Rattle.moves.proofs.Held.{held-few}

@@ -1,7 +1,6 @@
 -- `settling::join` meets its contract. Assumes nothing.
 use native.Mathlib.Numerals.{add-one}
 use native.Mathlib.Omega.{arith}
-use borrow.Author.Rules.{rules}
 use Rattle.settling.proofs.Requeuing.{queue-of}
 use Rattle.settling.proofs.join.Goals as goal
 

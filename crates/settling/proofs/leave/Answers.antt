@@ -1,6 +1,5 @@
 -- `settling::leave` meets its contract. Assumes nothing.
 use native.Mathlib.Omega.{arith}
-use borrow.Author.Rules.{rules}
 use Rattle.settling.proofs.Requeuing.{some_in}
 use Rattle.settling.proofs.leave.Goals as goal
 

@@ -1,5 +1,4 @@
 -- `settling::lift` meets its contract. Assumes nothing.
-use borrow.Author.Rules.{rules}
 use Rattle.model.specs.Shape.{low}
 use Rattle.settling.proofs.Written.{Rising, parted-rises, parted-lifts}
 use Rattle.settling.proofs.lift.Goals.{Start}

@@ -1,5 +1,4 @@
 -- `settling::promote` meets its contract. Assumes nothing.
-use borrow.Author.Rules.{rules}
 use Rattle.model.specs.Shape.{low}
 use Rattle.moves.proofs.Held.{held-sized, held_small}
 use Rattle.settling.proofs.Entries.{level-small}

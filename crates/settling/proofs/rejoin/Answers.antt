@@ -1,6 +1,5 @@
 -- `settling::rejoin` meets its contract. Assumes nothing.
 use native.Mathlib.Omega.{arith}
-use borrow.Author.Rules.{rules}
 use Rattle.settling.proofs.Requeuing.{queue-as, queue-none, join-low, join-high}
 use Rattle.settling.proofs.rejoin.Goals as goal
 

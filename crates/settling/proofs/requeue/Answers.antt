@@ -1,7 +1,6 @@
 -- `settling::requeue` meets its contract: the entry of v names its mate, or none. Assumes nothing.
 use mathlib.Core.Path.{◌≡◌, ◌∙◌}
 use native.Mathlib.Omega.{arith}
-use borrow.Author.Rules.{rules}
 use Rattle.model.specs.Shape.{low}
 use Rattle.model.specs.Bytes.{read}
 use Rattle.theory.specs.Waiting.{marks}

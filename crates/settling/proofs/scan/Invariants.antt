@@ -1,14 +1,8 @@
 -- `settling::scan` meets its contract. The loop's invariant: the turns of the vertices before the place of the walk are done. Assumes nothing.
-use mathlib.Core.Path.{sym, ◌∙◌}
-use Prim.Native.Nat.{◌-◌, ◌<◌}
-use native.Mathlib.Omega.{arith}
+use Prim.Native.Nat.{◌-◌}
 use Rattle.model.specs.Shape.{low}
-use Rattle.model.proofs.Shapes.{low-good}
-use Rattle.layout.specs.Walks.{Here}
-use Rattle.layout.proofs.Walks.{row-whole}
-use Rattle.layout.proofs.Reached.{reached, reached-here, place-small, further-less}
-use Rattle.moves.proofs.Held.{held-sized, held_small}
-use Rattle.settling.proofs.Scans.{ScanFrom, Scanning, scan-starts, scanning-sized, scan-visits, scan-sized, scan-again, scan-ends}
+use Rattle.layout.proofs.Reached.{reached}
+use Rattle.settling.proofs.Scans.{Scanning}
 use Rattle.settling.proofs.scan.Given as goal
 
 abbrev pub invariant-loop-at : goal.invariant-loop-at

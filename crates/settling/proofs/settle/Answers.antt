@@ -4,15 +4,14 @@ use mathlib.Core.Path.{◌≡◌, sym, ap, ◌∙◌}
 use Prim.Native.Nat.{suc, ◌≤◌, ◌<◌}
 use lib.ListN.{length}
 use native.Mathlib.Omega.{arith}
-use borrow.Author.Rules.{rules}
 use Rattle.model.specs.Shape.{low}
-use Rattle.model.specs.Bytes.{rules_at, top_at, read}
+use Rattle.model.specs.Bytes.{top_at, read}
 use Rattle.model.specs.Moves.{pick, found}
 use Rattle.theory.specs.Waiting.{queues_in}
 use Rattle.moves.proofs.Held.{held-room, held-sized}
-use Rattle.settling.specs.Settling.{queue_in, running, found_by}
+use Rattle.settling.specs.Settling.{queue_in, found_by}
 use Rattle.settling.proofs.Holding.{all_of}
-use Rattle.settling.proofs.SettleLoop.{taking-of, takings, takings-few, TakingsLeft, going_start, going-room, going-rest, going-used, going_on}
+use Rattle.settling.proofs.SettleLoop.{taking-of, takings, takings-few, going_start, going-room, going-rest, going-used, going_on}
 use Rattle.settling.proofs.settle.Goals.{At-loop-left, In-At}
 use Rattle.settling.proofs.settle.Goals as goal
 

@@ -1,7 +1,6 @@
 -- `settling::visit` meets its contract. Assumes nothing.
 use native.Mathlib.Omega.{arith}
 use lib.Dec.{T}
-use borrow.Author.Rules.{rules}
 use Rattle.model.specs.Shape.{low}
 use Rattle.model.specs.Bytes.{rules_at, read}
 use Rattle.model.specs.Moves.{due}

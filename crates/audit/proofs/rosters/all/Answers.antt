@@ -1,12 +1,7 @@
 -- `audit::rosters::all` meets its contract. The loop's invariant: the rosters are right as far as word k. Assumes nothing.
-use Prim.Native.Nat.{◌-◌, ◌*◌, ◌≤◌}
 use native.Mathlib.Omega.{arith}
-use borrow.Author.Tests.{not-true, not-false}
-use Rattle.model.specs.Shape.{low}
 use Rattle.layout.proofs.Said.{said, unsaid, says-yes, says-no}
-use Rattle.audit.specs.Parts.{RostersBelow}
 use Rattle.audit.proofs.Enrolled.{rosters-less}
-use borrow.Author.Rules.{rules}
 use Rattle.audit.proofs.rosters.all.Goals as goal
 
 pub loop-k-init : goal.loop-k-init

@@ -1,12 +1,11 @@
 -- `audit::rosters::listed` meets its contract. The loop's invariant: x is who is in a roster of a rank below q. Assumes nothing.
 use mathlib.Core.Path.{◌≡◌, subst}
-use Prim.Native.Nat.{ℕ, suc, ◌+◌, ◌-◌, ◌*◌, ◌≤◌}
+use Prim.Native.Nat.{ℕ, suc, ◌+◌, ◌*◌}
 use native.Mathlib.Omega.{arith}
 use Rattle.model.specs.Shape.{low}
 use Rattle.bitset.specs.Words.{Rest}
 use Rattle.audit.specs.Parts.{listed_in}
 use Rattle.audit.proofs.Enrolled.{listed-none, listed_more}
-use borrow.Author.Rules.{rules}
 use Rattle.audit.proofs.rosters.listed.Goals as goal
 
 pub loop-q-init : goal.loop-q-init

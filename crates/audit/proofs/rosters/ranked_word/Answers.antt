@@ -11,8 +11,7 @@ use Rattle.model.specs.Bytes.{rank_at, roster_at}
 use Rattle.bitset.proofs.Words.{dropped-less}
 use Rattle.layout.proofs.Said.{says-yes, says-no}
 use Rattle.audit.specs.Parts.{RankedBelow}
-use Rattle.audit.proofs.Walk.{Midway, Skips, midway_start, midway-first, midway-next, midway_end, each-skips, each-add}
-use borrow.Author.Rules.{rules}
+use Rattle.audit.proofs.Walk.{Skips, midway_start, midway-first, midway-next, midway_end, each-skips, each-add}
 use Rattle.audit.proofs.rosters.ranked_word.Goals.{After-rank, In-loop-x}
 use Rattle.audit.proofs.rosters.ranked_word.Goals as goal
 

@@ -1,18 +1,10 @@
 -- `audit::rosters::ranked_word` meets its contract. The loop's invariant: as far as some place of the word all have the rank, and x holds the
 -- places from there on. Assumes nothing.
-use mathlib.Core.Path.{◌≡◌, sym, ap, ◌∙◌}
-use mathlib.Core.List.{List}
-use Prim.Native.Nat.{ℕ, ◌+◌, ◌*◌, ◌<◌}
-use native.Mathlib.Omega.{arith}
-use lib.Dec.{T}
-use lib.Count.{count_trailing_zeros}
+use Prim.Native.Nat.{◌*◌}
 use Rattle.model.specs.Shape.{low}
-use Rattle.model.specs.Bytes.{rank_at, roster_at}
-use Rattle.bitset.proofs.Words.{dropped-less}
-use Rattle.layout.proofs.Said.{says-yes, says-no}
+use Rattle.model.specs.Bytes.{roster_at}
 use Rattle.audit.specs.Parts.{RankedBelow}
-use Rattle.audit.proofs.Walk.{Midway, Skips, midway_start, midway-first, midway-next, midway_end, each-skips, each-add}
-use borrow.Author.Rules.{rules}
+use Rattle.audit.proofs.Walk.{Midway}
 use Rattle.audit.proofs.rosters.ranked_word.Given as goal
 
 abbrev pub invariant-loop-x : goal.invariant-loop-x

@@ -1,12 +1,9 @@
 -- `audit::rosters::ranked_words` meets its contract. The loop's invariant: those in the word of a roster of a rank below r have that rank. Assumes nothing.
-use Prim.Native.Nat.{ℕ, suc, ◌+◌, ◌-◌, ◌*◌, ◌≤◌, ◌<◌}
+use Prim.Native.Nat.{◌≤◌}
 use native.Mathlib.Omega.{arith}
 use borrow.Author.Count.{below_more}
-use borrow.Author.Tests.{not-true, not-false}
 use Rattle.model.specs.Shape.{low}
 use Rattle.layout.proofs.Said.{said, unsaid, says-yes, says-no}
-use Rattle.audit.specs.Parts.{RankedBelow}
-use borrow.Author.Rules.{rules}
 use Rattle.audit.proofs.rosters.ranked_words.Goals as goal
 
 pub loop-r-init : goal.loop-r-init

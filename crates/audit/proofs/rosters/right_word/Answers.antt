@@ -9,7 +9,6 @@ use Rattle.model.specs.Shape.{low}
 use Rattle.layout.proofs.Said.{says-yes, says-no, says-by}
 use Rattle.audit.specs.Parts.{listed_in}
 use Rattle.audit.proofs.Enrolled.{agree-more, agree-word, ranked-past}
-use borrow.Author.Rules.{rules}
 use Rattle.audit.proofs.rosters.right_word.Goals.{Else-x-below}
 use Rattle.audit.proofs.rosters.right_word.Goals as goal
 

@@ -4,7 +4,6 @@ use native.Mathlib.Omega.{arith}
 use lib.ListN.{length-set}
 use Rattle.model.specs.Shape.{low}
 use Rattle.audit.proofs.Tally.{added, bump-small}
-use borrow.Author.Rules.{rules}
 use Rattle.audit.proofs.rows.add.Goals as goal
 
 pub overflow_add-tally : goal.overflow_add-tally

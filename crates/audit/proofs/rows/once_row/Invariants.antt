@@ -1,11 +1,7 @@
 -- `audit::rows::once_row` meets its contract. The loop's invariant: no second owner is found as far as word k. Assumes nothing.
 use Prim.Native.Nat.{◌+◌, ◌-◌, ◌*◌, ◌/◌, ◌≤◌}
-use native.Mathlib.Omega.{arith}
-use borrow.Author.Tests.{not-true, not-false}
 use Rattle.model.specs.Shape.{low}
-use Rattle.layout.proofs.Said.{said, unsaid, says-yes, says-no}
 use Rattle.audit.specs.Parts.{OnceBelow}
-use borrow.Author.Rules.{rules}
 use Rattle.audit.proofs.rows.once_row.Given as goal
 
 abbrev pub invariant-loop-k : goal.invariant-loop-k

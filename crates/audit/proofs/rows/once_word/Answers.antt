@@ -12,8 +12,7 @@ use Rattle.model.proofs.Tests.{true-T}
 use Rattle.bitset.proofs.Words.{dropped-less}
 use Rattle.layout.proofs.Said.{says-yes, says-no}
 use Rattle.audit.specs.Parts.{OnceBelow}
-use Rattle.audit.proofs.Walk.{Midway, Skips, midway_start, midway-first, midway-next, midway_end, each-skips, each-add}
-use borrow.Author.Rules.{rules}
+use Rattle.audit.proofs.Walk.{Skips, midway_start, midway-first, midway-next, midway_end, each-skips, each-add}
 use Rattle.audit.proofs.rows.once_word.Goals.{In-loop-x}
 use Rattle.audit.proofs.rows.once_word.Goals as goal
 

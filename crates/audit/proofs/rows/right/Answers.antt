@@ -4,7 +4,6 @@ use Rattle.model.specs.Shape.{low}
 use Rattle.model.specs.Bytes.{owns_at}
 use Rattle.model.proofs.Facts.{self_says, not-says}
 use Rattle.layout.proofs.Said.{says-by, says_is}
-use borrow.Author.Rules.{rules}
 use Rattle.audit.proofs.rows.right.Goals as goal
 
 pub returns : goal.returns

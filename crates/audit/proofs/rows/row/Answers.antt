@@ -1,12 +1,10 @@
 -- `audit::rows::row` meets its contract. Assumes nothing.
 use Prim.Native.Nat.{◌≤◌, ◌<◌}
 use native.Mathlib.Omega.{arith}
-use borrow.Author.Tests.{not-true, not-false}
 use Rattle.model.specs.Shape.{low}
 use Rattle.model.specs.Bytes.{rank_at}
 use Rattle.layout.proofs.Said.{said, unsaid, says-no, says-by}
 use Rattle.audit.proofs.Walk.{highest-adds-none}
-use borrow.Author.Rules.{rules}
 use Rattle.audit.proofs.rows.row.Goals as goal
 
 pub returns-then-not-owns_none_from : goal.returns-then-not-owns_none_from

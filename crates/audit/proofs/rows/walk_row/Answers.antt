@@ -1,15 +1,12 @@
 -- `audit::rows::walk_row` meets its contract. The loop's invariant: the row is walked as far as word k. Assumes nothing.
 use mathlib.Core.Path.{◌≡◌, refl, ◌∙◌, subst}
-use Prim.Native.Nat.{ℕ, ◌+◌, ◌-◌, ◌*◌, ◌≤◌}
+use Prim.Native.Nat.{ℕ, ◌+◌, ◌*◌, ◌≤◌}
 use native.Mathlib.Omega.{arith}
-use lib.ListN.{length}
-use borrow.Author.Tests.{not-true, not-false}
 use Rattle.model.specs.Shape.{low}
 use Rattle.model.proofs.Tests.{true-T}
 use Rattle.layout.proofs.Said.{unsaid, says-yes, says-no}
 use Rattle.audit.specs.Parts.{Walked}
 use Rattle.audit.proofs.Walk.{walked_start, walked_end}
-use borrow.Author.Rules.{rules}
 use Rattle.audit.proofs.rows.walk_row.Goals as goal
 
 pub loop-k-init : goal.loop-k-init

@@ -6,7 +6,6 @@ use Rattle.changes.specs.Working.{Workable}
 use Rattle.changes.specs.declared.working.Work.TheVariants.{Rise, Part}
 use Rattle.changes.proofs.Wholes.{sounded-held, Dropped, dropped-begun, dropped-inside, dropped-mates, dropped-pair}
 use Rattle.changes.proofs.Trials.{work-as}
-use borrow.Author.Rules.{rules}
 use Rattle.changes.proofs.working.carry_out.Goals.{After-drop_edge, In-Part, In-Rise}
 use Rattle.changes.proofs.working.carry_out.Goals as goal
 

@@ -8,7 +8,6 @@ use Rattle.model.specs.Bytes.{read}
 use Rattle.drawing.specs.Sure.{Sure}
 use Rattle.moves.proofs.Held.{held-sized, held-size, held-edges, held-few}
 use Rattle.changes.proofs.Trials.{sure-enough, lower-enough}
-use borrow.Author.Rules.{rules}
 use Rattle.changes.proofs.working.enough.Goals as goal
 
 -- at level 0, with a word for each that can draw

@@ -1,7 +1,6 @@
 -- `changes::working::part_and_settle` meets its contract. Assumes nothing.
 use mathlib.Core.Path.{◌∙◌}
 use native.Mathlib.Omega.{arith}
-use borrow.Author.Rules.{rules}
 use Rattle.model.specs.Shape.{low}
 use Rattle.model.specs.Bytes.{rules_at, read}
 use Rattle.model.specs.Change.{start_parted}

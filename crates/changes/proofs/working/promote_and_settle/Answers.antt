@@ -1,6 +1,5 @@
 -- `changes::working::promote_and_settle` meets its contract. Assumes nothing.
 use native.Mathlib.Omega.{arith}
-use borrow.Author.Rules.{rules}
 use Rattle.model.specs.Shape.{low}
 use Rattle.model.specs.Bytes.{rules_at, read}
 use Rattle.model.specs.Moves.{promote}

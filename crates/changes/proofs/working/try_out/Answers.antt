@@ -4,7 +4,6 @@ use native.Mathlib.Omega.{arith}
 use lib.ListN.{length}
 use Rattle.moves.proofs.Held.{held-sized}
 use Rattle.changes.proofs.Trials.{workable-held, tried-made, tried-back}
-use borrow.Author.Rules.{rules}
 use Rattle.changes.proofs.working.try_out.Goals as goal
 
 pub copy-requires : goal.copy-requires

@@ -1,7 +1,7 @@
 -- `layout::rosters::enroll` meets its contract: word by word the vertices enter. Assumes nothing.
 use mathlib.Core.Path.{◌≡◌, ap, ap₂, ◌∙◌}
 use mathlib.Core.List.{List}
-use Prim.Native.Nat.{ℕ, ◌+◌, ◌-◌, ◌*◌, ◌≤◌}
+use Prim.Native.Nat.{ℕ, ◌+◌, ◌*◌}
 use native.Mathlib.Omega.{arith}
 use lib.ListN.{length}
 use Rattle.model.specs.Shape.{low}
@@ -9,7 +9,6 @@ use Rattle.model.proofs.Shapes.{low-good}
 use Rattle.bitset.specs.Words.{stored}
 use Rattle.layout.specs.Setters.{enrolled}
 use Rattle.layout.proofs.Cleared.{enrolled-length, enrolled-word, enrolled-all}
-use borrow.Author.Rules.{rules}
 use Rattle.layout.proofs.rosters.enroll.Goals as goal
 
 pub loop-k-init : goal.loop-k-init

@@ -1,15 +1,8 @@
 -- `layout::rosters::enroll` meets its contract: word by word the vertices enter. Assumes nothing.
-use mathlib.Core.Path.{◌≡◌, ap, ap₂, ◌∙◌}
-use mathlib.Core.List.{List}
-use Prim.Native.Nat.{ℕ, ◌+◌, ◌-◌, ◌*◌, ◌≤◌}
-use native.Mathlib.Omega.{arith}
-use lib.ListN.{length}
+use mathlib.Core.Path.{◌≡◌}
+use Prim.Native.Nat.{◌-◌, ◌*◌, ◌≤◌}
 use Rattle.model.specs.Shape.{low}
-use Rattle.model.proofs.Shapes.{low-good}
-use Rattle.bitset.specs.Words.{stored}
 use Rattle.layout.specs.Setters.{enrolled}
-use Rattle.layout.proofs.Cleared.{enrolled-length, enrolled-word, enrolled-all}
-use borrow.Author.Rules.{rules}
 use Rattle.layout.proofs.rosters.enroll.Given as goal
 
 abbrev pub invariant-loop-k : goal.invariant-loop-k

@@ -2,7 +2,6 @@
 use mathlib.Core.Path.{◌∙◌}
 use Rattle.model.specs.Bytes.{roster_at}
 use Rattle.layout.proofs.Rows.{row_count}
-use borrow.Author.Rules.{rules}
 use Rattle.layout.proofs.rosters.size.Goals as goal
 
 pub returns : goal.returns

@@ -1,7 +1,6 @@
 -- `layout::rosters::word` meets its contract: the bytes of the roster are a word of the whole buffer. Assumes nothing.
 use Rattle.model.specs.Bytes.{roster_at}
 use Rattle.layout.proofs.Spans.{word_row}
-use borrow.Author.Rules.{rules}
 use Rattle.layout.proofs.rosters.word.Goals as goal
 
 pub returns : goal.returns

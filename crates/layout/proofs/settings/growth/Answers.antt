@@ -1,8 +1,6 @@
 -- `layout::settings::growth` meets its contract. Assumes nothing.
 use Rattle.model.specs.Bytes.{growth_at}
 use borrow.Author.Rules.{rules}
-use Rattle.layout.proofs.settings.growth.Reads as reads
-use Rattle.layout.proofs.settings.growth.Lts as lts
 use Rattle.layout.proofs.settings.growth.Goals as goal
 
 -- src/settings.rt:36:1

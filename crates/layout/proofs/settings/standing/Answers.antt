@@ -5,7 +5,6 @@ use native.Mathlib.Omega.{arith}
 use lib.Dec.{leb}
 use Rattle.model.specs.Counting.{bit}
 use Rattle.layout.proofs.Powers.{standing-long, stands}
-use borrow.Author.Rules.{rules}
 use Rattle.layout.proofs.settings.standing.Goals as goal
 
 pub returns : goal.returns

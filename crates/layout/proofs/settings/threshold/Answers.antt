@@ -1,9 +1,8 @@
 -- `layout::settings::threshold` meets its contract: the power rule is one test over the whole table. Assumes nothing.
 use mathlib.Core.Path.{ap, ◌∙◌}
-use Prim.Native.Nat.{ℕ, ◌-◌, ◌^◌}
+use Prim.Native.Nat.{ℕ, ◌^◌}
 use native.Mathlib.Omega.{arith}
 use Rattle.layout.proofs.Powers.{power}
-use borrow.Author.Rules.{rules}
 use Rattle.layout.proofs.settings.threshold.Goals as goal
 
 pub returns : goal.returns

@@ -4,7 +4,6 @@ use Prim.Native.Nat.{ℕ, ◌^◌, ◌≤◌}
 use native.Mathlib.Omega.{arith}
 use Rattle.model.specs.State.{least_growth, most_growth}
 use Rattle.layout.proofs.Powers.{thresholds-long, power}
-use borrow.Author.Rules.{rules}
 use Rattle.layout.proofs.settings.thresholds.Goals as goal
 
 pub returns : goal.returns

@@ -1,8 +1,6 @@
 -- `layout::settings::top` meets its contract. Assumes nothing.
 use Rattle.model.specs.Bytes.{top_at}
 use borrow.Author.Rules.{rules}
-use Rattle.layout.proofs.settings.top.Reads as reads
-use Rattle.layout.proofs.settings.top.Lts as lts
 use Rattle.layout.proofs.settings.top.Goals as goal
 
 -- src/settings.rt:36:1

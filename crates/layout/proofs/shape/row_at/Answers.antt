@@ -1,6 +1,5 @@
 -- `layout::shape::row_at` meets its contract: its figures are those of the shape. Assumes nothing.
 use native.Mathlib.Omega.{arith}
-use borrow.Author.Rules.{rules}
 use Rattle.layout.proofs.shape.row_at.Goals as goal
 
 pub returns : goal.returns

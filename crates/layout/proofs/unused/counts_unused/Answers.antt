@@ -4,7 +4,6 @@ use native.Mathlib.Omega.{arith}
 use Rattle.model.specs.Shape.{low, phis_from}
 use Rattle.model.proofs.Shapes.{low-good}
 use Rattle.layout.proofs.Spans.{span_counts}
-use borrow.Author.Rules.{rules}
 use Rattle.layout.proofs.unused.counts_unused.Goals as goal
 
 pub returns : goal.returns

@@ -1,7 +1,6 @@
 -- `layout::unused::mates_unused` meets its contract: the entries for mates from n on are one stretch of the bytes. Assumes nothing.
 use Rattle.model.proofs.Shapes.{low-good}
 use Rattle.layout.proofs.Spans.{span-mates}
-use borrow.Author.Rules.{rules}
 use Rattle.layout.proofs.unused.mates_unused.Goals as goal
 
 pub returns : goal.returns

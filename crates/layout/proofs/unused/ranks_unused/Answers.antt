@@ -1,7 +1,6 @@
 -- `layout::unused::ranks_unused` meets its contract: the ranks from n on are one stretch of the bytes. Assumes nothing.
 use Rattle.model.proofs.Shapes.{low-good}
 use Rattle.layout.proofs.Spans.{span-ranks}
-use borrow.Author.Rules.{rules}
 use Rattle.layout.proofs.unused.ranks_unused.Goals as goal
 
 pub returns : goal.returns

@@ -1,7 +1,6 @@
 -- `layout::unused::rosters_unused` meets its contract: the rosters from rank r on are one stretch of the bytes. Assumes nothing.
 use Rattle.model.proofs.Shapes.{low-good}
 use Rattle.layout.proofs.Spans.{span-rosters}
-use borrow.Author.Rules.{rules}
 use Rattle.layout.proofs.unused.rosters_unused.Goals as goal
 
 pub returns : goal.returns

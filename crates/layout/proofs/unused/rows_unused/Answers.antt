@@ -1,7 +1,6 @@
 -- `layout::unused::rows_unused` meets its contract: the rows from n on are one stretch of the bytes. Assumes nothing.
 use Rattle.model.proofs.Shapes.{low-good}
 use Rattle.layout.proofs.Spans.{span-rows}
-use borrow.Author.Rules.{rules}
 use Rattle.layout.proofs.unused.rows_unused.Goals as goal
 
 pub returns : goal.returns

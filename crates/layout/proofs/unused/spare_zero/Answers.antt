@@ -3,7 +3,6 @@ use native.Mathlib.Omega.{arith}
 use Rattle.model.specs.Shape.{low}
 use Rattle.layout.proofs.Said.{says-by}
 use Rattle.layout.proofs.Spans.{cut-says}
-use borrow.Author.Rules.{rules}
 use Rattle.layout.proofs.unused.spare_zero.Goals as goal
 
 pub returns : goal.returns

@@ -1,6 +1,5 @@
 -- `layout::unused::unused_from` meets its contract: the four fields of an entry, one after the other. Assumes nothing.
 use Rattle.layout.proofs.Said.{said, unsaid, says-no, says-by}
-use borrow.Author.Rules.{rules}
 use Rattle.layout.proofs.unused.unused_from.Goals as goal
 
 pub returns-then-not-ranks_unused : goal.returns-then-not-ranks_unused

@@ -1,11 +1,10 @@
 -- `layout::walk::from_word` meets its contract. The loop's invariant: no word before this one has an edge. Assumes nothing.
-use Prim.Native.Nat.{◌-◌, ◌*◌}
+use Prim.Native.Nat.{◌*◌}
 use native.Mathlib.Omega.{arith}
-use borrow.Author.Rules.{rules}
 use Rattle.model.specs.Shape.{low}
 use Rattle.model.specs.Bytes.{owns_at}
 use Rattle.model.proofs.Shapes.{low-good}
-use Rattle.layout.proofs.Walks.{row-whole, Passed, passed_none, passed-word, passed_here, passed-end}
+use Rattle.layout.proofs.Walks.{row-whole, passed_none, passed-word, passed_here, passed-end}
 use Rattle.layout.proofs.walk.from_word.Goals as goal
 
 pub loop-word-init : goal.loop-word-init

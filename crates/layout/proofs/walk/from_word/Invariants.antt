@@ -1,11 +1,8 @@
 -- `layout::walk::from_word` meets its contract. The loop's invariant: no word before this one has an edge. Assumes nothing.
 use Prim.Native.Nat.{◌-◌, ◌*◌}
-use native.Mathlib.Omega.{arith}
-use borrow.Author.Rules.{rules}
 use Rattle.model.specs.Shape.{low}
 use Rattle.model.specs.Bytes.{owns_at}
-use Rattle.model.proofs.Shapes.{low-good}
-use Rattle.layout.proofs.Walks.{row-whole, Passed, passed_none, passed-word, passed_here, passed-end}
+use Rattle.layout.proofs.Walks.{Passed}
 use Rattle.layout.proofs.walk.from_word.Given as goal
 
 abbrev pub invariant-loop-word : goal.invariant-loop-word

@@ -2,7 +2,6 @@
 use Prim.Native.Nat.{◌<◌}
 use native.Mathlib.Omega.{arith}
 use lib.Count.{count_trailing_zeros}
-use borrow.Author.Rules.{rules}
 use Rattle.bitset.proofs.Digits.{trailing}
 use Rattle.layout.proofs.walk.place.Goals.{Start}
 use Rattle.layout.proofs.walk.place.Goals as goal

@@ -5,7 +5,6 @@ use native.Mathlib.Omega.{arith}
 use lib.Dec.{ltb, ltb→lt, lt→ltb}
 use Rattle.model.proofs.Tests.{bool-ext}
 use Rattle.bitset.proofs.Sets.{none_rest}
-use borrow.Author.Rules.{rules}
 use Rattle.layout.proofs.words.below.Goals as goal
 
 pub returns-then-n-k : goal.returns-then-n-k

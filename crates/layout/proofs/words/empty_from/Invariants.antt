@@ -1,12 +1,8 @@
 -- `layout::words::empty_from` meets its contract: the words of the row are gathered in one, which is empty exactly if they all are. Assumes nothing.
 use Prim.Native.Nat.{◌-◌, ◌*◌, ◌≤◌}
-use native.Mathlib.Omega.{arith}
 use Rattle.model.specs.Shape.{low}
 use Rattle.model.specs.Bytes.{owns_at}
-use Rattle.model.proofs.Facts.{eqb-says}
-use Rattle.layout.proofs.Said.{says-by}
-use Rattle.bitset.proofs.Sets.{Merged, merged-none, merged-more}
-use borrow.Author.Rules.{rules}
+use Rattle.bitset.proofs.Sets.{Merged}
 use Rattle.layout.proofs.words.empty_from.Given as goal
 
 abbrev pub invariant-loop-k : goal.invariant-loop-k

@@ -10,7 +10,6 @@ use Rattle.model.specs.Bytes.{owns_at}
 use Rattle.model.proofs.Tests.{le?}
 use Rattle.bitset.proofs.Sets.{among-fact, among-test}
 use Rattle.layout.proofs.Said.{says-yes, says-no, says-by}
-use borrow.Author.Rules.{rules}
 use Rattle.layout.proofs.words.owns_none_from.Goals as goal
 
 pub returns-then-k-ge-MOST : goal.returns-then-k-ge-MOST

@@ -1,6 +1,5 @@
 -- `layout::words::word` meets its contract: the bytes of the row are a word of the whole buffer. Assumes nothing.
 use native.Mathlib.Omega.{arith}
-use borrow.Author.Rules.{rules}
 use Rattle.model.specs.Bytes.{owns_at}
 use Rattle.layout.proofs.Spans.{word_row}
 use Rattle.layout.proofs.words.word.Goals as goal

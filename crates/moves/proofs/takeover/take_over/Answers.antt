@@ -1,8 +1,7 @@
 -- `moves::takeover::take_over` meets its contract. The loop's invariant: u has taken what the vertices of a rank below q owed it, and as many edges as
 -- are missing are still owed. Assumes nothing.
-use borrow.Author.Rules.{rules}
 use mathlib.Core.Path.{◌≡◌, sym, ap, ◌∙◌, subst}
-use Prim.Native.Nat.{ℕ, suc, ◌+◌, ◌-◌, ◌≤◌, ◌<◌}
+use Prim.Native.Nat.{ℕ, ◌+◌, ◌-◌, ◌≤◌, ◌<◌}
 use native.Mathlib.Omega.{arith}
 use Rattle.model.specs.Counting.{count}
 use Rattle.model.specs.Shape.{low}

@@ -1,7 +1,7 @@
 -- `moves::takeover::take_rank` meets its contract. The loop's invariant: u has taken its edges from the owners in the words before word k, and an edge
 -- is missing. Assumes nothing.
 use mathlib.Core.Path.{◌≡◌, sym, ap, ◌∙◌}
-use Prim.Native.Nat.{◌+◌, ◌-◌, ◌*◌, ◌≤◌, ◌<◌}
+use Prim.Native.Nat.{◌+◌, ◌*◌, ◌≤◌}
 use native.Mathlib.Omega.{arith}
 use Rattle.model.specs.Shape.{low}
 use Rattle.model.specs.State.{State}

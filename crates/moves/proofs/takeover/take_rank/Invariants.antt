@@ -1,16 +1,9 @@
 -- `moves::takeover::take_rank` meets its contract. The loop's invariant: u has taken its edges from the owners in the words before word k, and an edge
 -- is missing. Assumes nothing.
-use mathlib.Core.Path.{◌≡◌, sym, ap, ◌∙◌}
-use Prim.Native.Nat.{◌+◌, ◌-◌, ◌*◌, ◌≤◌, ◌<◌}
-use native.Mathlib.Omega.{arith}
+use Prim.Native.Nat.{◌-◌, ◌*◌, ◌<◌}
 use Rattle.model.specs.Shape.{low}
-use Rattle.model.specs.State.{State}
-use Rattle.model.specs.Bytes.{kind_at, read}
-use Rattle.model.specs.Change.{reown}
-use Rattle.moves.specs.Proper.{Held, owner_at, took_from}
-use Rattle.moves.proofs.Held.{held-sized}
-use Rattle.moves.proofs.Taking.{Takes, takes-rank}
-use Rattle.moves.proofs.TakeRank.{TakeRank, rank-start, rank-read, rank-held, rank-few, rank-next, rank-full, rank-end}
+use Rattle.model.specs.Bytes.{read}
+use Rattle.moves.proofs.TakeRank.{TakeRank}
 use Rattle.moves.proofs.takeover.take_rank.Given as goal
 
 abbrev pub invariant-loop-k : goal.invariant-loop-k

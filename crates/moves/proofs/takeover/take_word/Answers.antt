@@ -7,7 +7,7 @@ use Prim.Native.Nat.{ℕ, ◌+◌, ◌*◌, ◌<◌}
 use native.Mathlib.Omega.{arith}
 use lib.Count.{count_trailing_zeros}
 use Rattle.model.specs.Shape.{Shape, low}
-use Rattle.model.specs.State.{low_with, State}
+use Rattle.model.specs.State.{State}
 use Rattle.model.specs.Bytes.{kind_at, growth_at, top_at, read, write}
 use Rattle.bitset.specs.Words.{Rest}
 use Rattle.bitset.proofs.Words.{dropped-less}

@@ -1,22 +1,11 @@
 -- `moves::takeover::take_word` meets its contract. Where the loop begins, u's row has gained the owners of the word; then those before some place have
 -- lost their edges to u, and x holds the others. The loop does not know the bytes from before u's row was written, so its invariant says this
 -- of every state of which it holds where the loop begins. Assumes nothing.
-use mathlib.Core.Path.{◌≡◌, refl, sym, ap, ◌∙◌, subst}
-use mathlib.Core.Bool.{Bool}
-use Prim.Native.Nat.{ℕ, ◌+◌, ◌*◌, ◌<◌}
-use native.Mathlib.Omega.{arith}
-use lib.Count.{count_trailing_zeros}
-use Rattle.model.specs.Shape.{Shape, low}
+use Prim.Native.Nat.{ℕ}
 use Rattle.model.specs.State.{low_with, State}
-use Rattle.model.specs.Bytes.{kind_at, growth_at, top_at, read, write}
-use Rattle.bitset.specs.Words.{Rest}
-use Rattle.bitset.proofs.Words.{dropped-less}
-use Rattle.layout.specs.Setters.{Sized, disown}
 use Rattle.moves.specs.Proper.{owner_at}
-use Rattle.moves.proofs.Held.{proper-shape, held-sized, held_small, held-owns}
-use Rattle.moves.proofs.Taking.{Takes, takes-rank}
-use Rattle.moves.proofs.Turning.{among}
-use Rattle.moves.proofs.TakeWord.{TakeWord, word_none, word-start, word-sized, word-owner, word-left, word_next, word_end}
+use Rattle.moves.proofs.Taking.{Takes}
+use Rattle.moves.proofs.TakeWord.{TakeWord}
 use Rattle.moves.proofs.takeover.take_word.Given as goal
 
 abbrev pub invariant-loop-x : goal.invariant-loop-x
