@@ -1,5 +1,5 @@
--- `lines::words_at` meets its contract. The invariant is `GotWords`: the words read stand there, and any text of words that stands there starts with them.
--- Assumes nothing.
+-- `lines::words_at` meets its contract. The invariant is `GotWords`: the words read stand there, and any text of words that stands there
+-- starts with them. Assumes nothing.
 use mathlib.Core.Path.{refl}
 use native.Mathlib.Omega.{arith}
 use lib.ListN.{length-set}

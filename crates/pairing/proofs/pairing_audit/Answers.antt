@@ -1,7 +1,6 @@
 -- `pairing::pairing_audit` meets its contract: yes is 1, no is 0. Assumes nothing.
 use mathlib.Core.Path.{ap, ◌∙◌}
 use Rattle.model.specs.Counting.{bit}
-use borrow.Author.Rules.{rules}
 use Rattle.pairing.proofs.pairing_audit.Goals as goal
 
 pub returns : goal.returns

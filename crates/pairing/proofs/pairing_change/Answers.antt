@@ -1,5 +1,4 @@
 -- `pairing::pairing_change` meets its contract: the answer's figures one by one. Assumes nothing.
-use borrow.Author.Rules.{rules}
 use Rattle.pairing.proofs.pairing_change.Goals as goal
 
 pub returns : goal.returns

@@ -6,7 +6,6 @@ use lib.IntN.{ℤ}
 use mir.Syntax.{w32}
 use mir.Val.{to_z, of_z}
 use mir.ValLaws.{to_z-of_z}
-use borrow.Author.Rules.{rules}
 use Rattle.model.specs.Shape.{low}
 use Rattle.model.specs.Calls.{QueryAnswer, roster_query}
 use Rattle.pairing.proofs.pairing_roster.Goals as goal

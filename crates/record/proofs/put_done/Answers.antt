@@ -3,7 +3,8 @@ use native.Mathlib.Omega.{arith}
 use Rattle.model.specs.Text.{bytes}
 use Rattle.text.proofs.Writers.{Chain, first, next, counted, starts, room, figure-room, figure}
 use Rattle.record.proofs.Laws.{three-written}
-use Rattle.record.proofs.put_done.Goals.{After-put_literal, After-put_literal-2, After-put_literal-3, After-put_literal-a, After-put_number, After-put_number-2, After-put_number-3}
+use Rattle.record.proofs.put_done.Goals.{After-put_literal, After-put_literal-2, After-put_literal-3, After-put_literal-a}
+use Rattle.record.proofs.put_done.Goals.{After-put_number, After-put_number-2, After-put_number-3}
 use Rattle.record.proofs.put_done.Goals as goal
 
 -- what is written after each writer, and how much may still be

@@ -1,5 +1,5 @@
--- The loop of `trace::read_lines`: the reader holds the text, and where it stands the invariant of `ReadLoop` holds. Less is left to read after each line.
--- Assumes nothing.
+-- The loop of `trace::read_lines`: the reader holds the text, and where it stands the invariant of `ReadLoop` holds. Less is left to read
+-- after each line. Assumes nothing.
 use Rattle.std.proofs.Common.{◌≡◌}
 use Rattle.trace.proofs.ReadLoop.{Inv, left}
 use Rattle.trace.proofs.read_lines.Given as goal
