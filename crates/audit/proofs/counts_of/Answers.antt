@@ -61,7 +61,14 @@ pub overflow_mul-total-in-loop-j : goal.overflow_mul-total-in-loop-j
 overflow_mul-total-in-loop-j c = let a = c.args in
     let l = c.loop-j in
     let total = l.total + get_or a.tally.now (low.levels * a.v + l.j) 0 in
-    record { fits = omega (arith, fits (goal.at.overflow_mul-total-in-loop-j c).In-loop-j, held_small (limits (goal.at.overflow_mul-total-in-loop-j c).In-loop-j) total l.j c.loop-j-test.true) }
+    record {
+      fits = omega (
+        arith,
+        fits (goal.at.overflow_mul-total-in-loop-j c).In-loop-j,
+        held_small
+            (limits (goal.at.overflow_mul-total-in-loop-j c).In-loop-j) total l.j c.loop-j-test.true,
+      );
+    }
 
 pub returns-then-x-total : goal.returns-then-x-total
 returns-then-x-total c = let a = c.args in
@@ -99,7 +106,8 @@ loop-j-preserved c = let a = c.args in
       omega (arith, h),
       (
         omega (arith, up_to-more low a.tally.now a.v l.j, l.invariant.1.0),
-        below_more _ _ l.invariant.1.1 (count-tested (limits (goal.at.loop-j-preserved c).In-loop-j) _ l.j h a.v held (omega (arith, phi, c.if-bars-j.false))),
+        below_more _ _ l.invariant.1.1 (count-tested (limits (goal.at.loop-j-preserved c).In-loop-j) _ l.j h a.v held
+            (omega (arith, phi, c.if-bars-j.false))),
       ),
     )
 

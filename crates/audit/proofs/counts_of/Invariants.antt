@@ -8,7 +8,8 @@ use Rattle.audit.specs.Parts.{Count}
 use Rattle.audit.proofs.counts_of.Given as goal
 
 abbrev pub invariant-loop-j : goal.invariant-loop-j
-invariant-loop-j l = (l.j ≤ low.levels) × ((l.total ≡ up_to low l.tally l.v l.j) × ((i : ℕ) → i < l.j → Count low l.rack l.v i (up_to low l.tally l.v (suc i))))
+invariant-loop-j l = (l.j ≤ low.levels) ×
+    ((l.total ≡ up_to low l.tally l.v l.j) × ((i : ℕ) → i < l.j → Count low l.rack l.v i (up_to low l.tally l.v (suc i))))
 
 abbrev pub decreases-loop-j : goal.decreases-loop-j
 decreases-loop-j l = low.levels - l.j

@@ -16,7 +16,12 @@ pub slice_bounds-all-end : goal.slice_bounds-all-end
 slice_bounds-all-end c = refl
 
 pub all-requires : goal.all-requires
-all-requires c = record { sized = c.requires.sized; n_le_most = c.requires.n_le_most; by_index = c.requires.by_index; holds = zeros-hold low c.args.rack.now _ refl }
+all-requires c = record {
+  sized = c.requires.sized;
+  n_le_most = c.requires.n_le_most;
+  by_index = c.requires.by_index;
+  holds = zeros-hold low c.args.rack.now _ refl;
+}
 
 pub returns-then-not-all : goal.returns-then-not-all
 returns-then-not-all c = says-no (λ g. unsaid c.all.ensures.says c.if-not-all.true g.rows)
@@ -38,7 +43,13 @@ slice_bounds-counts-end c = sym (held (goal.at.slice_bounds-counts-end c).Else-n
 pub counts-requires : goal.counts-requires
 counts-requires c = let few = c.requires.n_le_most in
     let sums = sums-fit low (omega arith) c.args.rack.now _ c.args.n few (held (goal.at.counts-requires c).Else-not-all) in
-    record { sized = c.requires.sized; in_range = (settled (goal.at.counts-requires c).Else-not-settings).range; n_le_most = few; tally_len = (held (goal.at.counts-requires c).Else-not-all).long; by_index = λ v h. sums v (omega (arith, few)) }
+    record {
+      sized = c.requires.sized;
+      in_range = (settled (goal.at.counts-requires c).Else-not-settings).range;
+      n_le_most = few;
+      tally_len = (held (goal.at.counts-requires c).Else-not-all).long;
+      by_index = λ v h. sums v (omega (arith, few));
+    }
 
 pub returns : goal.returns
 returns c = let bs = c.args.rack.now in

@@ -21,7 +21,8 @@ add-requires c = let q = ordered (goal.at.add-requires c).After-upper-high in
     record { sounded = c.requires.sounded; a_bound = (q.inside.0, q.inside.1, q.apart, q.adds c.if-code-eq1.true) }
 
 pub returns-then-code-eq1 : goal.returns-then-code-eq1
-returns-then-code-eq1 c = adds_run _ (given (goal.at.returns-then-code-eq1 c).Start) c.lower-low.ensures c.upper-high.ensures _ c.if-code-eq1.true c.add.ensures
+returns-then-code-eq1 c = adds_run _
+    (given (goal.at.returns-then-code-eq1 c).Start) c.lower-low.ensures c.upper-high.ensures _ c.if-code-eq1.true c.add.ensures
 
 pub drop-requires : goal.drop-requires
 drop-requires c = let q = ordered (goal.at.drop-requires c).After-upper-high in

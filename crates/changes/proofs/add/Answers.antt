@@ -32,7 +32,8 @@ pub riser-requires : goal.riser-requires
 riser-requires c = let x = added (goal.at.riser-requires c).After-add_edge in record { held = (added-begun x).held; a_bound = added-inside x }
 
 pub returns-in_default : goal.returns-in_default
-returns-in_default c = added_none (added (goal.at.returns-in_default c).After-add_edge) _ (sym c.riser.ensures ∙ ap reached_by c.in_default.is) c.new.ensures
+returns-in_default c = added_none (added (goal.at.returns-in_default c).After-add_edge) _
+    (sym c.riser.ensures ∙ ap reached_by c.in_default.is) c.new.ensures
 
 pub enough-requires : goal.enough-requires
 enough-requires c = (added-begun (added (goal.at.enough-requires c).After-add_edge)).held
@@ -46,8 +47,14 @@ pub returns-then-enough : goal.returns-then-enough
 returns-then-enough c = let words = c.args.words.now in
     let sure = enough-yes (read low c.add_edge.new.rack) _ 1 words (omega arith) c.if-enough.true c.enough.ensures in
     let m = c.promote_and_settle in
-    let few : m.result.draws ≤ length words = omega (arith, m.ensures.draws, added-enough (added (goal.at.returns-then-enough c).After-add_edge) (reached (goal.at.returns-then-enough c).In-At) words sure) in
-    added-made (added (goal.at.returns-then-enough c).After-add_edge) (reached (goal.at.returns-then-enough c).In-At) words (tried-made m.ensures few) few
+    let few : m.result.draws ≤ length words = omega (
+      arith,
+      m.ensures.draws,
+      added-enough (added (goal.at.returns-then-enough c).After-add_edge)
+          (reached (goal.at.returns-then-enough c).In-At) words sure,
+    ) in
+    added-made (added (goal.at.returns-then-enough c).After-add_edge) (reached (goal.at.returns-then-enough c).In-At) words
+    (tried-made m.ensures few) few
 
 pub try_out-t-requires : goal.try_out-t-requires
 try_out-t-requires c = let x = added (goal.at.try_out-t-requires c).After-add_edge in
@@ -59,7 +66,9 @@ drop_edge-requires c =
     record { held = all.0; a_bound = all.1 }
 
 pub returns-then-words-t : goal.returns-then-words-t
-returns-then-words-t c = added-back (added (goal.at.returns-then-words-t c).After-add_edge) (reached (goal.at.returns-then-words-t c).In-At) c.args.words.now c.try_out-t.ensures (omega (arith, c.if-words-t.true)) c.drop_edge.ensures
+returns-then-words-t c = added-back (added (goal.at.returns-then-words-t c).After-add_edge)
+    (reached (goal.at.returns-then-words-t c).In-At) c.args.words.now c.try_out-t.ensures (omega (arith, c.if-words-t.true)) c.drop_edge.ensures
 
 pub returns-else-words-t : goal.returns-else-words-t
-returns-else-words-t c = added-made (added (goal.at.returns-else-words-t c).After-add_edge) (reached (goal.at.returns-else-words-t c).In-At) c.args.words.now c.try_out-t.ensures (omega (arith, c.if-words-t.false))
+returns-else-words-t c = added-made (added (goal.at.returns-else-words-t c).After-add_edge)
+    (reached (goal.at.returns-else-words-t c).In-At) c.args.words.now c.try_out-t.ensures (omega (arith, c.if-words-t.false))

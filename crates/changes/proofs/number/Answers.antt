@@ -23,7 +23,8 @@ given d = brought d.args.code d.args.a d.args.b []
 size_is : (c : After-size-n) → c.size-n.result ≡ (state (goal.at.After-size-n c).Start).n
 size_is c = c.size-n.ensures ∙ held-size c.requires
 
-named-is : (c : After-first-named) → c.first-named.result ≡ of_named (state (goal.at.After-first-named c).Start).n (edge (state (goal.at.After-first-named c).Start)) (given (goal.at.After-first-named c).Start)
+named-is : (c : After-first-named) → c.first-named.result ≡ of_named (state (goal.at.After-first-named c).Start).n
+    (edge (state (goal.at.After-first-named c).Start)) (given (goal.at.After-first-named c).Start)
 named-is c =
     let a = c.args in
     c.first-named.ensures
@@ -48,5 +49,6 @@ linked-there-requires c = let h = c.requires in
     record { sized = held-sized h; v_lt_most = held_small h _ e.0; w_lt_most = held_small h _ e.1 }
 
 pub returns : goal.returns
-returns c = let edge-is = ap (link_number c.args.code) (c.linked-there.ensures ∙ edge-held c.requires _ _ (ends (goal.at.returns c).Else-named-ne0)) in
+returns c = let edge-is = ap (link_number c.args.code)
+    (c.linked-there.ensures ∙ edge-held c.requires _ _ (ends (goal.at.returns c).Else-named-ne0)) in
     c.link_number.ensures ∙ edge-is ∙ first_next _ _ (sym (named-is (goal.at.returns c).After-first-named) ∙ c.if-named-ne0.false) ∙ early-is _ _ _

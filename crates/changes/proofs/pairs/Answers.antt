@@ -31,8 +31,10 @@ mated c =
     let bs : List ℕ = c.args.rack.now in
     let ok = c.requires in
     let held = sounded-held bs ok in
-    let n : c.size.result ≡ (read low bs).n = c.size.ensures ∙ held-size held in
-    (omega (arith, n, idle bs c.size-2.ensures (omega arith) ∙ held-rostered held 0 (omega arith), free-pairs (rules_at bs) (read low bs) ok.valid), n)
+    let n : c.size.result ≡ (read low bs).n = c.size.ensures ∙ held-size held in (
+      omega (arith, n, idle bs c.size-2.ensures (omega arith) ∙ held-rostered held 0 (omega arith), free-pairs (rules_at bs) (read low bs) ok.valid),
+      n,
+    )
 
 pub overflow_sub-result : goal.overflow_sub-result
 overflow_sub-result c = omega (arith, (mated c).0)

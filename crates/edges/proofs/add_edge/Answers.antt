@@ -57,11 +57,13 @@ turned-now c =
     ]
 
 turned-long : (c : Joined-rb-ra) → Sized low c.if-rb-ra.rack
-turned-long c = ap length (turned-now c) ∙ turned-sized (from (goal.at.Joined-rb-ra c).Start) (to (goal.at.Joined-rb-ra c).Start) c.requires.held.proper
+turned-long c = ap length (turned-now c) ∙ turned-sized (from (goal.at.Joined-rb-ra c).Start)
+    (to (goal.at.Joined-rb-ra c).Start) c.requires.held.proper
 
 higher-is : (c : After-higher) → Higher c.args.a c.args.b c.higher.result (from (goal.at.After-higher c).Start)
 higher-is c =
-    higher-of c.requires.held c.args.a c.args.b (a-low (goal.at.After-higher c).Start) (b-low (goal.at.After-higher c).Start) c.rank-ra.ensures c.rank-rb.ensures
+    higher-of c.requires.held c.args.a c.args.b (a-low (goal.at.After-higher c).Start)
+    (b-low (goal.at.After-higher c).Start) c.rank-ra.ensures c.rank-rb.ensures
     c.higher.ensures
 
 -- the bytes at the end
@@ -71,7 +73,9 @@ written-now c =
     let b = c.args.b in
     let j = c.higher.result in
     c.count_edge.ensures ∙ ap (λ (bs : List ℕ). edge_counted low true bs a b j) (turned-now (goal.at.After-slice_known-2-1 c).Joined-rb-ra)
-    ∙ step-written a b j true (from (goal.at.After-slice_known-2-1 c).Start) (to (goal.at.After-slice_known-2-1 c).Start) (add_step a b (from (goal.at.After-slice_known-2-1 c).Start) (addable (goal.at.After-slice_known-2-1 c).Start) j (higher-is (goal.at.After-slice_known-2-1 c).After-higher))
+    ∙ step-written a b j true (from (goal.at.After-slice_known-2-1 c).Start) (to (goal.at.After-slice_known-2-1 c).Start)
+    (add_step a b (from (goal.at.After-slice_known-2-1 c).Start) (addable (goal.at.After-slice_known-2-1 c).Start) j
+    (higher-is (goal.at.After-slice_known-2-1 c).After-higher))
 
 pub rank-ra-requires : goal.rank-ra-requires
 rank-ra-requires c = record { sized = held-sized c.requires.held; v_lt_most = a-low (goal.at.rank-ra-requires c).Start }
@@ -80,10 +84,18 @@ pub rank-rb-requires : goal.rank-rb-requires
 rank-rb-requires c = record { sized = held-sized c.requires.held; v_lt_most = b-low (goal.at.rank-rb-requires c).Start }
 
 pub own-requires : goal.own-requires
-own-requires c = record { sized = held-sized c.requires.held; v_lt_most = a-low (goal.at.own-requires c).Start; w_lt_most = b-low (goal.at.own-requires c).Start }
+own-requires c = record {
+  sized = held-sized c.requires.held;
+  v_lt_most = a-low (goal.at.own-requires c).Start;
+  w_lt_most = b-low (goal.at.own-requires c).Start;
+}
 
 pub own-requires-else-rb-ra : goal.own-requires-else-rb-ra
-own-requires-else-rb-ra c = record { sized = held-sized c.requires.held; v_lt_most = b-low (goal.at.own-requires-else-rb-ra c).Start; w_lt_most = a-low (goal.at.own-requires-else-rb-ra c).Start }
+own-requires-else-rb-ra c = record {
+  sized = held-sized c.requires.held;
+  v_lt_most = b-low (goal.at.own-requires-else-rb-ra c).Start;
+  w_lt_most = a-low (goal.at.own-requires-else-rb-ra c).Start;
+}
 
 pub count_edge-requires : goal.count_edge-requires
 count_edge-requires c = let a = c.args.a in

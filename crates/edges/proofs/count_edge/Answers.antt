@@ -40,14 +40,25 @@ overflow_sub-k c = omega (arith, c.top.ensures, c.requires.countable.level)
 
 pub step_counts-requires : goal.step_counts-requires
 step_counts-requires c = let k = c.top.ensures in
-    record { sized = c.requires.sized; w_lt_most = (c.requires.countable.a_in, omega (arith, c.requires.countable.level, c.requires.countable.room)); by_index = λ x l h. c.requires.countable.of-a x l (omega (arith, c.requires.countable.level)) }
+    record {
+      sized = c.requires.sized;
+      w_lt_most = (c.requires.countable.a_in, omega (arith, c.requires.countable.level, c.requires.countable.room));
+      by_index = λ x l h. c.requires.countable.of-a x l (omega (arith, c.requires.countable.level));
+    }
 
 pub step_counts-requires-2 : goal.step_counts-requires-2
 step_counts-requires-2 c = let a = c.args in
-    let k = c.top.ensures in record { sized = omega (arith, c.step_counts.auto.rack, c.requires.sized); w_lt_most = (c.requires.countable.b-in, omega (arith, c.requires.countable.level, c.requires.countable.room)); by_index = λ x l h. subst (λ (bs : List ℕ). CanStep a.more (largest_count low) (phi_at low bs a.b x)) (sym (first-now (goal.at.step_counts-requires-2 c).After-step_counts)) (c.requires.countable.of-b x l (omega (arith, c.requires.countable.level))) }
+    let k = c.top.ensures in record {
+      sized = omega (arith, c.step_counts.auto.rack, c.requires.sized);
+      w_lt_most = (c.requires.countable.b-in, omega (arith, c.requires.countable.level, c.requires.countable.room));
+      by_index = λ x l h. subst (λ (bs : List ℕ). CanStep a.more (largest_count low) (phi_at low bs a.b x))
+          (sym (first-now (goal.at.step_counts-requires-2 c).After-step_counts))
+          (c.requires.countable.of-b x l (omega (arith, c.requires.countable.level)));
+    }
 
 pub stepped-next-requires : goal.stepped-next-requires
-stepped-next-requires c = subst (CanStep c.args.more (largest_edges low)) (sym (c.edges-m.ensures ∙ ap (edges_at low) (second-now (goal.at.stepped-next-requires c).After-step_counts-2))) c.requires.countable.of-edges
+stepped-next-requires c = subst (CanStep c.args.more (largest_edges low))
+    (sym (c.edges-m.ensures ∙ ap (edges_at low) (second-now (goal.at.stepped-next-requires c).After-step_counts-2))) c.requires.countable.of-edges
 
 pub returns : goal.returns
 unfolding edge_counted

@@ -62,18 +62,28 @@ pub rank-requires-2 : goal.rank-requires-2
 rank-requires-2 c = record { sized = held-sized c.requires.held; v_lt_most = b-low (goal.at.rank-requires-2 c).Start }
 
 pub disown-requires : goal.disown-requires
-disown-requires c = record { sized = held-sized c.requires.held; v_lt_most = a-low (goal.at.disown-requires c).Start; w_lt_most = b-low (goal.at.disown-requires c).Start }
+disown-requires c = record {
+  sized = held-sized c.requires.held;
+  v_lt_most = a-low (goal.at.disown-requires c).Start;
+  w_lt_most = b-low (goal.at.disown-requires c).Start;
+}
 
 pub disown-requires-2 : goal.disown-requires-2
-disown-requires-2 c = record { sized = c.disown.auto.rack ∙ held-sized c.requires.held; v_lt_most = b-low (goal.at.disown-requires-2 c).Start; w_lt_most = a-low (goal.at.disown-requires-2 c).Start }
+disown-requires-2 c = record {
+  sized = c.disown.auto.rack ∙ held-sized c.requires.held;
+  v_lt_most = b-low (goal.at.disown-requires-2 c).Start;
+  w_lt_most = a-low (goal.at.disown-requires-2 c).Start;
+}
 
 pub count_edge-requires : goal.count_edge-requires
 count_edge-requires c = let a = c.args.a in
     let b = c.args.b in
     let j = c.higher-j.result in record {
-      sized = ap length (turned-now (goal.at.count_edge-requires c).After-disown-2) ∙ turned-sized (from (goal.at.count_edge-requires c).Start) (to (goal.at.count_edge-requires c).Start) c.requires.held.proper;
+      sized = ap length (turned-now (goal.at.count_edge-requires c).After-disown-2) ∙ turned-sized (from (goal.at.count_edge-requires c).Start)
+          (to (goal.at.count_edge-requires c).Start) c.requires.held.proper;
       countable = subst (λ (bs : List ℕ). Countable low false bs a b j) (sym (turned-now (goal.at.count_edge-requires c).After-disown-2))
-          (drop-countable a b (from (goal.at.count_edge-requires c).Start) (droppable (goal.at.count_edge-requires c).Start) j (higher-is (goal.at.count_edge-requires c).After-higher-j));
+          (drop-countable a b (from (goal.at.count_edge-requires c).Start) (droppable (goal.at.count_edge-requires c).Start) j
+          (higher-is (goal.at.count_edge-requires c).After-higher-j));
     }
 
 pub returns : goal.returns
@@ -81,4 +91,5 @@ returns c = let a = c.args.a in
     let b = c.args.b in
     let j = c.higher-j.result in
     c.count_edge.ensures ∙ ap (λ (bs : List ℕ). edge_counted low false bs a b j) (turned-now (goal.at.returns c).After-disown-2)
-    ∙ step-written a b j false (from (goal.at.returns c).Start) (to (goal.at.returns c).Start) (drop-step a b (from (goal.at.returns c).Start) (droppable (goal.at.returns c).Start) j (higher-is (goal.at.returns c).After-higher-j))
+    ∙ step-written a b j false (from (goal.at.returns c).Start) (to (goal.at.returns c).Start)
+    (drop-step a b (from (goal.at.returns c).Start) (droppable (goal.at.returns c).Start) j (higher-is (goal.at.returns c).After-higher-j))

@@ -46,7 +46,8 @@ highest : (c : At-loop-j) (x : ℕ) → (state-of c).rank (a-of c) ≤ x → (st
 highest c x p q = c.higher-low.ensures.2 x (omega (arith, a-rank c)) (omega (arith, b-rank c))
 
 -- the level j - 1 is above both ends
-above : (c : Else-j-low) → Above (a-of (goal.at.Else-j-low c).At-loop-j) (b-of (goal.at.Else-j-low c).At-loop-j) c.loop-j.j (state-of (goal.at.Else-j-low c).At-loop-j)
+above : (c : Else-j-low) → Above (a-of (goal.at.Else-j-low c).At-loop-j) (b-of (goal.at.Else-j-low c).At-loop-j) c.loop-j.j
+    (state-of (goal.at.Else-j-low c).At-loop-j)
 above c =
     let h = c.higher-low.ensures in
     record {
@@ -65,12 +66,16 @@ bar c = c.thresholds-bars.ensures.1 (c.loop-j.j - 1) (level c)
 
 -- a count at the level j - 1
 a-count : (c : Else-j-low)
-    → phi_at low (rack-of (goal.at.Else-j-low c).At-loop-j) (a-of (goal.at.Else-j-low c).At-loop-j) (c.loop-j.j - 1) ≡ phi_entry (state-of (goal.at.Else-j-low c).At-loop-j) (a-of (goal.at.Else-j-low c).At-loop-j) (c.loop-j.j - 1)
-a-count c = held-entry (held (goal.at.Else-j-low c).At-loop-j) (a-of (goal.at.Else-j-low c).At-loop-j) (c.loop-j.j - 1) (a_small (goal.at.Else-j-low c).At-loop-j) (level c)
+    → phi_at low (rack-of (goal.at.Else-j-low c).At-loop-j) (a-of (goal.at.Else-j-low c).At-loop-j) (c.loop-j.j - 1) ≡ phi_entry
+    (state-of (goal.at.Else-j-low c).At-loop-j) (a-of (goal.at.Else-j-low c).At-loop-j) (c.loop-j.j - 1)
+a-count c = held-entry (held (goal.at.Else-j-low c).At-loop-j) (a-of (goal.at.Else-j-low c).At-loop-j) (c.loop-j.j - 1)
+    (a_small (goal.at.Else-j-low c).At-loop-j) (level c)
 
 b-count : (c : Else-j-low)
-    → phi_at low (rack-of (goal.at.Else-j-low c).At-loop-j) (b-of (goal.at.Else-j-low c).At-loop-j) (c.loop-j.j - 1) ≡ phi_entry (state-of (goal.at.Else-j-low c).At-loop-j) (b-of (goal.at.Else-j-low c).At-loop-j) (c.loop-j.j - 1)
-b-count c = held-entry (held (goal.at.Else-j-low c).At-loop-j) (b-of (goal.at.Else-j-low c).At-loop-j) (c.loop-j.j - 1) (b-small (goal.at.Else-j-low c).At-loop-j) (level c)
+    → phi_at low (rack-of (goal.at.Else-j-low c).At-loop-j) (b-of (goal.at.Else-j-low c).At-loop-j) (c.loop-j.j - 1) ≡ phi_entry
+    (state-of (goal.at.Else-j-low c).At-loop-j) (b-of (goal.at.Else-j-low c).At-loop-j) (c.loop-j.j - 1)
+b-count c = held-entry (held (goal.at.Else-j-low c).At-loop-j) (b-of (goal.at.Else-j-low c).At-loop-j) (c.loop-j.j - 1)
+    (b-small (goal.at.Else-j-low c).At-loop-j) (level c)
 
 pub rank-requires : goal.rank-requires
 rank-requires c = record { sized = held-sized c.requires.held; v_lt_most = held_small c.requires.held c.args.a c.requires.a_bound.0 }
@@ -95,7 +100,11 @@ pub bounds-bars-j : goal.bounds-bars-j
 bounds-bars-j c = omega (arith, c.loop-j.invariant.0, c.thresholds-bars.ensures.0)
 
 pub phi-requires : goal.phi-requires
-phi-requires c = record { sized = held-sized (held (goal.at.phi-requires c).At-loop-j); v_lt_most = omega (arith, a_small (goal.at.phi-requires c).At-loop-j, b-small (goal.at.phi-requires c).At-loop-j); j_lt_levels = omega (arith, level c) }
+phi-requires c = record {
+  sized = held-sized (held (goal.at.phi-requires c).At-loop-j);
+  v_lt_most = omega (arith, a_small (goal.at.phi-requires c).At-loop-j, b-small (goal.at.phi-requires c).At-loop-j);
+  j_lt_levels = omega (arith, level c);
+}
 
 pub offset_bounds-bars-j-in-loop-j : goal.offset_bounds-bars-j-in-loop-j
 offset_bounds-bars-j-in-loop-j c = omega (arith, level (goal.at.offset_bounds-bars-j-in-loop-j c).Else-j-low)
@@ -104,35 +113,69 @@ pub bounds-bars-j-in-loop-j : goal.bounds-bars-j-in-loop-j
 bounds-bars-j-in-loop-j c = omega (arith, level (goal.at.bounds-bars-j-in-loop-j c).Else-j-low, c.thresholds-bars.ensures.0)
 
 pub phi-requires-in-loop-j : goal.phi-requires-in-loop-j
-phi-requires-in-loop-j c = record { sized = held-sized (held (goal.at.phi-requires-in-loop-j c).At-loop-j); v_lt_most = omega (arith, a_small (goal.at.phi-requires-in-loop-j c).At-loop-j, b-small (goal.at.phi-requires-in-loop-j c).At-loop-j); j_lt_levels = omega (arith, level (goal.at.phi-requires-in-loop-j c).Else-j-low) }
+phi-requires-in-loop-j c = record {
+  sized = held-sized (held (goal.at.phi-requires-in-loop-j c).At-loop-j);
+  v_lt_most = omega (arith, a_small (goal.at.phi-requires-in-loop-j c).At-loop-j, b-small (goal.at.phi-requires-in-loop-j c).At-loop-j);
+  j_lt_levels = omega (arith, level (goal.at.phi-requires-in-loop-j c).Else-j-low);
+}
 
 pub loop-j-smaller : goal.loop-j-smaller
 loop-j-smaller c = omega (arith, (above (goal.at.loop-j-smaller c).Else-j-low).some)
 
 -- a's count does not reach the level
 a-under : (c : Else-bars-j)
-    → phi_entry (state-of (goal.at.Else-bars-j c).At-loop-j) (a-of (goal.at.Else-bars-j c).At-loop-j) (c.loop-j.j - 1) < growth_at (rack-of (goal.at.Else-bars-j c).At-loop-j) ^ (c.loop-j.j - 1)
+    → phi_entry (state-of (goal.at.Else-bars-j c).At-loop-j) (a-of (goal.at.Else-bars-j c).At-loop-j) (c.loop-j.j - 1) < growth_at
+    (rack-of (goal.at.Else-bars-j c).At-loop-j) ^ (c.loop-j.j - 1)
 a-under c = omega (arith, a-count (goal.at.Else-bars-j c).Else-j-low, c.if-bars-j.false, c.phi.ensures, bar (goal.at.Else-bars-j c).Else-j-low)
 
 pub loop-j-preserved : goal.loop-j-preserved
 loop-j-preserved c = (
   omega (arith, c.loop-j.invariant.0),
-  search-on (a-of (goal.at.loop-j-preserved c).At-loop-j) (b-of (goal.at.loop-j-preserved c).At-loop-j) c.loop-j.j (state-of (goal.at.loop-j-preserved c).At-loop-j) (held (goal.at.loop-j-preserved c).At-loop-j).proper (above (goal.at.loop-j-preserved c).Else-j-low) c.loop-j.invariant.1 (a-under (goal.at.loop-j-preserved c).Else-bars-j)
-      (omega (arith, b-count (goal.at.loop-j-preserved c).Else-j-low, c.if-bars-j-2.false, c.phi-in-loop-j.ensures, bar (goal.at.loop-j-preserved c).Else-j-low)),
+  search-on (a-of (goal.at.loop-j-preserved c).At-loop-j) (b-of (goal.at.loop-j-preserved c).At-loop-j) c.loop-j.j
+      (state-of (goal.at.loop-j-preserved c).At-loop-j) (held (goal.at.loop-j-preserved c).At-loop-j).proper
+      (above (goal.at.loop-j-preserved c).Else-j-low) c.loop-j.invariant.1 (a-under (goal.at.loop-j-preserved c).Else-bars-j)
+      (omega (
+        arith,
+        b-count (goal.at.loop-j-preserved c).Else-j-low,
+        c.if-bars-j-2.false,
+        c.phi-in-loop-j.ensures,
+        bar
+            (goal.at.loop-j-preserved c).Else-j-low,
+      )),
 )
 
 -- the ranks are at most the top level's, so that a search that ends at them is not above the top
 pub returns-then-j-low : goal.returns-then-j-low
 returns-then-j-low c = let p = (held (goal.at.returns-then-j-low c).At-loop-j).proper in
-    let l = highest (goal.at.returns-then-j-low c).At-loop-j (suc (top_at (rack-of (goal.at.returns-then-j-low c).At-loop-j))) (proper-ranks p (a-of (goal.at.returns-then-j-low c).At-loop-j)) (proper-ranks p (b-of (goal.at.returns-then-j-low c).At-loop-j)) in
-    sym (search-ends (rules_at (rack-of (goal.at.returns-then-j-low c).At-loop-j)) (a-of (goal.at.returns-then-j-low c).At-loop-j) (b-of (goal.at.returns-then-j-low c).At-loop-j) c.loop-j.j (state-of (goal.at.returns-then-j-low c).At-loop-j)
+    let l = highest (goal.at.returns-then-j-low c).At-loop-j (suc (top_at (rack-of (goal.at.returns-then-j-low c).At-loop-j)))
+    (proper-ranks p (a-of (goal.at.returns-then-j-low c).At-loop-j)) (proper-ranks p (b-of (goal.at.returns-then-j-low c).At-loop-j)) in
+    sym (search-ends (rules_at (rack-of (goal.at.returns-then-j-low c).At-loop-j)) (a-of (goal.at.returns-then-j-low c).At-loop-j)
+    (b-of (goal.at.returns-then-j-low c).At-loop-j) c.loop-j.j (state-of (goal.at.returns-then-j-low c).At-loop-j)
     (λ x p q. omega (arith, c.if-j-low.true, highest (goal.at.returns-then-j-low c).At-loop-j x p q)))
     ∙ c.loop-j.invariant.1 (omega (arith, c.if-j-low.true, l))
 
 pub returns-then-bars-j : goal.returns-then-bars-j
-returns-then-bars-j c = search-a (a-of (goal.at.returns-then-bars-j c).At-loop-j) (b-of (goal.at.returns-then-bars-j c).At-loop-j) c.loop-j.j (state-of (goal.at.returns-then-bars-j c).At-loop-j) (held (goal.at.returns-then-bars-j c).At-loop-j).proper (above (goal.at.returns-then-bars-j c).Else-j-low) c.loop-j.invariant.1
-    (omega (arith, a-count (goal.at.returns-then-bars-j c).Else-j-low, c.if-bars-j.true, c.phi.ensures, bar (goal.at.returns-then-bars-j c).Else-j-low))
+returns-then-bars-j c = search-a (a-of (goal.at.returns-then-bars-j c).At-loop-j) (b-of (goal.at.returns-then-bars-j c).At-loop-j) c.loop-j.j
+    (state-of (goal.at.returns-then-bars-j c).At-loop-j) (held (goal.at.returns-then-bars-j c).At-loop-j).proper
+    (above (goal.at.returns-then-bars-j c).Else-j-low) c.loop-j.invariant.1
+    (omega (
+      arith,
+      a-count (goal.at.returns-then-bars-j c).Else-j-low,
+      c.if-bars-j.true,
+      c.phi.ensures,
+      bar
+          (goal.at.returns-then-bars-j c).Else-j-low,
+    ))
 
 pub returns-then-bars-j-2 : goal.returns-then-bars-j-2
-returns-then-bars-j-2 c = search-b (a-of (goal.at.returns-then-bars-j-2 c).At-loop-j) (b-of (goal.at.returns-then-bars-j-2 c).At-loop-j) c.loop-j.j (state-of (goal.at.returns-then-bars-j-2 c).At-loop-j) (held (goal.at.returns-then-bars-j-2 c).At-loop-j).proper (above (goal.at.returns-then-bars-j-2 c).Else-j-low) c.loop-j.invariant.1 (a-under (goal.at.returns-then-bars-j-2 c).Else-bars-j)
-    (omega (arith, b-count (goal.at.returns-then-bars-j-2 c).Else-j-low, c.if-bars-j-2.true, c.phi-in-loop-j.ensures, bar (goal.at.returns-then-bars-j-2 c).Else-j-low))
+returns-then-bars-j-2 c = search-b (a-of (goal.at.returns-then-bars-j-2 c).At-loop-j) (b-of (goal.at.returns-then-bars-j-2 c).At-loop-j) c.loop-j.j
+    (state-of (goal.at.returns-then-bars-j-2 c).At-loop-j) (held (goal.at.returns-then-bars-j-2 c).At-loop-j).proper
+    (above (goal.at.returns-then-bars-j-2 c).Else-j-low) c.loop-j.invariant.1 (a-under (goal.at.returns-then-bars-j-2 c).Else-bars-j)
+    (omega (
+      arith,
+      b-count (goal.at.returns-then-bars-j-2 c).Else-j-low,
+      c.if-bars-j-2.true,
+      c.phi-in-loop-j.ensures,
+      bar
+          (goal.at.returns-then-bars-j-2 c).Else-j-low,
+    ))

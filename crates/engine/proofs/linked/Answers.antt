@@ -29,7 +29,12 @@ linked-requires c =
 
 pub returns-then-linked : goal.returns-then-linked
 unfolding linked_query
-returns-then-linked c = rw (none_told c.two_number-k.ensures c.if-k-ne0.false, edge-is (goal.at.returns-then-linked c).After-linked ∙ c.if-linked.true, linked_query)
+returns-then-linked c = rw (
+  none_told c.two_number-k.ensures c.if-k-ne0.false,
+  edge-is (goal.at.returns-then-linked c).After-linked
+      ∙ c.if-linked.true,
+  linked_query,
+)
     (record { number = refl; value = refl })
 
 pub returns : goal.returns

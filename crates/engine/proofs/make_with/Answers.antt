@@ -43,17 +43,21 @@ returns-then-not-sized c =
 
 pub returns-then-n-eq0 : goal.returns-then-n-eq0
 returns-then-n-eq0 c = let k = asked (goal.at.returns-then-n-eq0 c).Start in
-    let all = turned (make-back k _ _ (long (goal.at.returns-then-n-eq0 c).Else-not-sized) (asked-five k _ (few-bad low _ c.if-n-eq0.true)) (omega arith)) in
+    let all = turned (make-back k _ _ (long (goal.at.returns-then-n-eq0 c).Else-not-sized) (asked-five k _ (few-bad low _ c.if-n-eq0.true))
+    (omega arith)) in
     record { number = all.0; leaves = all.1 }
 
 pub returns-then-n-gt-MOST : goal.returns-then-n-gt-MOST
 returns-then-n-gt-MOST c = let k = asked (goal.at.returns-then-n-gt-MOST c).Start in
-    let all = turned (make-back k _ _ (long (goal.at.returns-then-n-gt-MOST c).Else-not-sized) (asked-five k _ (many-bad low _ (omega (arith, c.if-n-gt-MOST.true)))) (omega arith)) in
+    let all = turned (make-back k _ _ (long (goal.at.returns-then-n-gt-MOST c).Else-not-sized)
+    (asked-five k _ (many-bad low _ (omega (arith, c.if-n-gt-MOST.true)))) (omega arith)) in
     record { number = all.0; leaves = all.1 }
 
 pub returns-then-not-in_range : goal.returns-then-not-in_range
 returns-then-not-in_range c = let k = asked (goal.at.returns-then-not-in_range c).Start in
-    let all = turned (make-back k _ _ (long (goal.at.returns-then-not-in_range c).Else-not-sized) (asked-thirteen k _ (size-good (goal.at.returns-then-not-in_range c).Else-n-gt-MOST) (flag_off c.in_range.ensures c.if-not-in_range.true)) (omega arith)) in
+    let all = turned (make-back k _ _ (long (goal.at.returns-then-not-in_range c).Else-not-sized)
+    (asked-thirteen k _ (size-good (goal.at.returns-then-not-in_range c).Else-n-gt-MOST) (flag_off c.in_range.ensures c.if-not-in_range.true))
+    (omega arith)) in
     record { number = all.0; leaves = all.1 }
 
 pub overflow_cast-growth : goal.overflow_cast-growth
@@ -63,12 +67,16 @@ pub overflow_cast-top : goal.overflow_cast-top
 overflow_cast-top c = omega (arith, (range (goal.at.overflow_cast-top c).Else-not-in_range).room)
 
 pub clear-requires : goal.clear-requires
-clear-requires c = record { sized = sized-length low _ (long (goal.at.clear-requires c).Else-not-sized); n_le_most = omega (arith, c.if-n-gt-MOST.false) }
+clear-requires c = record {
+  sized = sized-length low _ (long (goal.at.clear-requires c).Else-not-sized);
+  n_le_most = omega (arith, c.if-n-gt-MOST.false);
+}
 
 pub returns : goal.returns
 returns c = let x = c.clear in
     let k = asked (goal.at.returns c).Start in
     let n = c.args.n in
-    let r = make-new k _ n (long (goal.at.returns c).Else-not-sized) (asked-none k n (size-good (goal.at.returns c).Else-n-gt-MOST) (flag-on c.in_range.ensures c.if-not-in_range.false)) in
+    let r = make-new k _ n (long (goal.at.returns c).Else-not-sized)
+    (asked-none k n (size-good (goal.at.returns c).Else-n-gt-MOST) (flag-on c.in_range.ensures c.if-not-in_range.false)) in
     let empties : x.new.rack ≡ write (empty k n) = x.ensures in
     record { number = sym r.0; leaves = empties ∙ sym r.1 }

@@ -33,12 +33,16 @@ returns-then-r-gt-LEVELS c = let a = c.args in
     rw (none_told c.rack_number-k.ensures c.if-k-ne0.false, roster_query)
     (record {
       number = refl;
-      value = level-none low a.rack.now (none (goal.at.returns-then-r-gt-LEVELS c).Else-k-ne0) a.level c.rank_of-r.result (found (goal.at.returns-then-r-gt-LEVELS c).After-rank_of-r) (omega (arith, c.if-r-gt-LEVELS.true));
+      value = level-none low a.rack.now (none (goal.at.returns-then-r-gt-LEVELS c).Else-k-ne0) a.level c.rank_of-r.result
+          (found (goal.at.returns-then-r-gt-LEVELS c).After-rank_of-r) (omega (arith, c.if-r-gt-LEVELS.true));
     })
 
 pub size-requires : goal.size-requires
 size-requires c = let bs = c.args.rack.now in
-    record { sized = sized-length low bs (rack-good low bs (none (goal.at.size-requires c).Else-k-ne0)).0; r_le_levels = omega (arith, c.if-r-gt-LEVELS.false) }
+    record {
+      sized = sized-length low bs (rack-good low bs (none (goal.at.size-requires c).Else-k-ne0)).0;
+      r_le_levels = omega (arith, c.if-r-gt-LEVELS.false);
+    }
 
 pub overflow_cast-result : goal.overflow_cast-result
 overflow_cast-result c = let a = c.args in
@@ -51,5 +55,6 @@ returns c = let a = c.args in
     (record {
       number = refl;
       value = c.size.ensures
-          ∙ level-roster low a.rack.now (none (goal.at.returns c).Else-k-ne0) a.level c.rank_of-r.result (found (goal.at.returns c).After-rank_of-r) (omega (arith, c.if-r-gt-LEVELS.false));
+          ∙ level-roster low a.rack.now (none (goal.at.returns c).Else-k-ne0) a.level c.rank_of-r.result (found (goal.at.returns c).After-rank_of-r)
+          (omega (arith, c.if-r-gt-LEVELS.false));
     })

@@ -26,7 +26,10 @@ pub overflow_add-i : goal.overflow_add-i
 overflow_add-i c = omega (arith, level (goal.at.overflow_add-i c).Start)
 
 pub zero_counts-requires : goal.zero_counts-requires
-zero_counts-requires c = record { sized = omega (arith, c.lower_counts.auto.rack, held-sized c.requires.held); u_lt_most = (held_small c.requires.held _ c.requires.u_bound.0, omega (arith, level (goal.at.zero_counts-requires c).Start)) }
+zero_counts-requires c = record {
+  sized = omega (arith, c.lower_counts.auto.rack, held-sized c.requires.held);
+  u_lt_most = (held_small c.requires.held _ c.requires.u_bound.0, omega (arith, level (goal.at.zero_counts-requires c).Start));
+}
 
 pub overflow_add-i-2 : goal.overflow_add-i-2
 overflow_add-i-2 c = omega (arith, level (goal.at.overflow_add-i-2 c).Start)
@@ -48,7 +51,8 @@ set_rank-requires c = record {
   sized = omega (arith, c.zero_counts.auto.rack, c.lower_counts.auto.rack, held-sized c.requires.held);
   v_lt_most = (
     held_small c.requires.held _ c.requires.u_bound.0,
-    rank-listed (read low c.args.rack.now) c.requires.held.proper _ c.args.u c.requires.u_bound.0 c.zero_counts.new.rack (counted (goal.at.set_rank-requires c).After-zero_counts),
+    rank-listed (read low c.args.rack.now) c.requires.held.proper _ c.args.u c.requires.u_bound.0 c.zero_counts.new.rack
+        (counted (goal.at.set_rank-requires c).After-zero_counts),
     omega (arith, level (goal.at.set_rank-requires c).Start),
   );
 }

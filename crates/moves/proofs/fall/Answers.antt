@@ -19,7 +19,12 @@ use Rattle.moves.proofs.fall.Goals as goal
 fits : (c : Start) → c.args.k < 256
 fits c =
     let a = c.args in
-    omega (arith, c.requires.row_below.1, fall-fits (read low a.rack.now) c.requires.held.proper a.i a.v c.requires.v_bound.0 c.requires.v_bound.2 c.requires.row_below.0 c.requires.v_bound.1)
+    omega (
+      arith,
+      c.requires.row_below.1,
+      fall-fits
+          (read low a.rack.now) c.requires.held.proper a.i a.v c.requires.v_bound.0 c.requires.v_bound.2 c.requires.row_below.0 c.requires.v_bound.1,
+    )
 
 pub raise_counts-low-requires : goal.raise_counts-low-requires
 raise_counts-low-requires c = record { held = c.requires.held; v_bound = c.requires.v_bound; row_below = c.requires.row_below.0 }
@@ -28,7 +33,11 @@ pub overflow_cast-k : goal.overflow_cast-k
 overflow_cast-k c = omega (arith, fits (goal.at.overflow_cast-k c).Start)
 
 pub set_phi-requires : goal.set_phi-requires
-set_phi-requires c = record { sized = omega (arith, c.raise_counts-low.auto.rack, held-sized c.requires.held); v_lt_most = held_small c.requires.held _ c.requires.v_bound.0; j_lt_levels = omega (arith, held-room c.requires.held, c.requires.v_bound.2) }
+set_phi-requires c = record {
+  sized = omega (arith, c.raise_counts-low.auto.rack, held-sized c.requires.held);
+  v_lt_most = held_small c.requires.held _ c.requires.v_bound.0;
+  j_lt_levels = omega (arith, held-room c.requires.held, c.requires.v_bound.2);
+}
 
 pub overflow_cast-i : goal.overflow_cast-i
 overflow_cast-i c = omega (arith, held-room c.requires.held, c.requires.v_bound.2)
@@ -47,7 +56,8 @@ set_rank-requires c = record {
   sized = omega (arith, c.set_phi.auto.rack, c.raise_counts-low.auto.rack, held-sized c.requires.held);
   v_lt_most = (
     held_small c.requires.held _ c.requires.v_bound.0,
-    rank-listed (read low c.args.rack.now) c.requires.held.proper _ c.args.v c.requires.v_bound.0 c.set_phi.new.rack (recounted (goal.at.set_rank-requires c).After-set_phi),
+    rank-listed (read low c.args.rack.now) c.requires.held.proper _ c.args.v c.requires.v_bound.0 c.set_phi.new.rack
+        (recounted (goal.at.set_rank-requires c).After-set_phi),
     omega (arith, held-room c.requires.held, c.requires.v_bound.2),
   );
 }
@@ -61,4 +71,7 @@ returns c = let a = c.args in
     c.set_rank.ensures ∙ ap (λ (bs : List ℕ). set_rank low bs a.v a.i) c.set_phi.ensures
     ∙ ap₂ last c.raise_counts-low.ensures.rack_after c.requires.row_below.1
     ∙ fall-bytes s c.requires.held.proper a.i a.v c.requires.v_bound.0 c.requires.v_bound.2 row c.requires.v_bound.1 in
-    record { rack_after = bytes; says = fall-says s c.requires.held.proper a.i a.v c.requires.v_bound.0 c.requires.v_bound.2 row c.requires.v_bound.1 _ c.raise_counts-low.ensures.says }
+    record {
+      rack_after = bytes;
+      says = fall-says s c.requires.held.proper a.i a.v c.requires.v_bound.0 c.requires.v_bound.2 row c.requires.v_bound.1 _ c.raise_counts-low.ensures.says;
+    }

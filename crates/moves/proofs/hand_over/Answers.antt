@@ -43,10 +43,12 @@ loop-k-smaller c = omega (arith, c.loop-k-test.true)
 
 pub loop-k-preserved : goal.loop-k-preserved
 loop-k-preserved c = let e = c.hand_word-split.ensures in
-    over-next (state (goal.at.loop-k-preserved c).Start) c.requires.held.0.proper c.args.i c.args.v c.loop-k.invariant (inside (goal.at.loop-k-preserved c).In-loop-k) e.rack_after e.handed_value e.below_value
+    over-next (state (goal.at.loop-k-preserved c).Start) c.requires.held.0.proper c.args.i c.args.v c.loop-k.invariant
+    (inside (goal.at.loop-k-preserved c).In-loop-k) e.rack_after e.handed_value e.below_value
 
 pub shape_of-rack : goal.shape_of-rack
-shape_of-rack c = held-sized (over-held (state (goal.at.shape_of-rack c).Start) c.requires.held.0.proper c.args.i c.args.v c.loop-k.invariant) ∙ sym (held-sized c.requires.held.0)
+shape_of-rack c = held-sized (over-held (state (goal.at.shape_of-rack c).Start) c.requires.held.0.proper c.args.i c.args.v c.loop-k.invariant) ∙ sym
+    (held-sized c.requires.held.0)
 
 pub returns : goal.returns
 returns c = let l = c.loop-k in

@@ -36,15 +36,18 @@ rank-small s = omega (arith, proper-ranks s.requires.held.proper s.args.v, held-
 row-rest : (c : After-word-row) →
     Rest (λ j. (state (goal.at.After-word-row c).Start).owns c.args.v (64 * c.args.k + j)) 0 c.word-row.result
 row-rest c =
-    rest-ext c.word-row.ensures (λ j l. held-owns c.requires.held c.args.v (64 * c.args.k + j) (v-small (goal.at.After-word-row c).Start) (omega (arith, c.requires.v_bound.2)))
+    rest-ext c.word-row.ensures (λ j l. held-owns c.requires.held c.args.v (64 * c.args.k + j) (v-small (goal.at.After-word-row c).Start)
+    (omega (arith, c.requires.v_bound.2)))
 
 roster-rest : (c : After-word) →
     let w : ℕ → ℕ = λ j. 64 * c.args.k + j in
-    Rest (λ j. ltb (w j) (state (goal.at.After-word c).Start).n && eqb ((state (goal.at.After-word c).Start).rank (w j)) (suc c.args.i)) 0 c.word.result
+    Rest (λ j. ltb (w j) (state (goal.at.After-word c).Start).n && eqb ((state (goal.at.After-word c).Start).rank (w j))
+    (suc c.args.i)) 0 c.word.result
 roster-rest c =
     let word : ℕ → Type 0 = λ r. Rest (λ j. roster_at low c.args.rack.now r (64 * c.args.k + j)) 0 c.word.result in
     rest-ext (subst word {y = suc c.args.i} (omega arith) c.word.ensures)
-    (λ j l. held-roster c.requires.held (suc c.args.i) (64 * c.args.k + j) (rank-small (goal.at.After-word c).Start) (omega (arith, c.requires.v_bound.2)))
+    (λ j l. held-roster c.requires.held (suc c.args.i) (64 * c.args.k + j) (rank-small (goal.at.After-word c).Start)
+    (omega (arith, c.requires.v_bound.2)))
 
 -- what goes, and what stays
 go-rest : (c : After-word) →
@@ -64,7 +67,11 @@ unfolding read
 sized c = handing-sized c.requires.held.proper c.args.i c.args.v c.args.k c.loop-x.invariant
 
 pub word-row-requires : goal.word-row-requires
-word-row-requires c = record { sized = held-sized c.requires.held; v_lt_most = v-small (goal.at.word-row-requires c).Start; k_bound = c.requires.v_bound.2 }
+word-row-requires c = record {
+  sized = held-sized c.requires.held;
+  v_lt_most = v-small (goal.at.word-row-requires c).Start;
+  k_bound = c.requires.v_bound.2;
+}
 
 -- an empty word
 pub returns-then-row-eq0 : goal.returns-then-row-eq0
@@ -79,7 +86,11 @@ pub overflow_add-i : goal.overflow_add-i
 overflow_add-i c = omega (arith, rank-small (goal.at.overflow_add-i c).Start)
 
 pub word-requires : goal.word-requires
-word-requires c = record { sized = held-sized c.requires.held; r_le_levels = omega (arith, rank-small (goal.at.word-requires c).Start); k_bound = c.requires.v_bound.2 }
+word-requires c = record {
+  sized = held-sized c.requires.held;
+  r_le_levels = omega (arith, rank-small (goal.at.word-requires c).Start);
+  k_bound = c.requires.v_bound.2;
+}
 
 pub loop-x-init : goal.loop-x-init
 loop-x-init c = handing-start c.requires.held.proper c.args.i c.args.v c.args.k c.requires.held.written (go-rest c)
@@ -96,7 +107,11 @@ pub place-w-requires : goal.place-w-requires
 place-w-requires c = record { rest_nonzero = some c; word_bound = c.requires.v_bound.2 }
 
 pub own-requires : goal.own-requires
-own-requires c = record { sized = sized (goal.at.own-requires c).At-loop-x; v_lt_most = omega (arith, c.place-w.ensures, inside (goal.at.own-requires c).In-loop-x); w_lt_most = v-small (goal.at.own-requires c).Start }
+own-requires c = record {
+  sized = sized (goal.at.own-requires c).At-loop-x;
+  v_lt_most = omega (arith, c.place-w.ensures, inside (goal.at.own-requires c).In-loop-x);
+  w_lt_most = v-small (goal.at.own-requires c).Start;
+}
 
 pub overflow_sub-x : goal.overflow_sub-x
 overflow_sub-x c = omega (arith, some (goal.at.overflow_sub-x c).In-loop-x)
@@ -106,11 +121,16 @@ loop-x-smaller c = dropped-less c.loop-x.x c.loop-x.invariant.rest.fits (some (g
 
 pub loop-x-preserved : goal.loop-x-preserved
 unfolding read
-loop-x-preserved c = handing-next c.requires.held.proper c.args.i c.args.v c.args.k c.loop-x.invariant (some (goal.at.loop-x-preserved c).In-loop-x) (v-small (goal.at.loop-x-preserved c).Start) (inside (goal.at.loop-x-preserved c).In-loop-x)
+loop-x-preserved c = handing-next c.requires.held.proper c.args.i c.args.v c.args.k c.loop-x.invariant (some (goal.at.loop-x-preserved c).In-loop-x)
+    (v-small (goal.at.loop-x-preserved c).Start) (inside (goal.at.loop-x-preserved c).In-loop-x)
     (c.own.ensures ∙ ap (λ (w : ℕ). own low c.loop-x.rack w c.args.v) c.place-w.ensures)
 
 pub set_word-requires : goal.set_word-requires
-set_word-requires c = record { sized = sized (goal.at.set_word-requires c).At-loop-x; v_lt_most = v-small (goal.at.set_word-requires c).Start; k_bound = c.requires.v_bound.2 }
+set_word-requires c = record {
+  sized = sized (goal.at.set_word-requires c).At-loop-x;
+  v_lt_most = v-small (goal.at.set_word-requires c).Start;
+  k_bound = c.requires.v_bound.2;
+}
 
 -- the numbers of the word's two parts
 go-count : (c : After-word) →
@@ -135,4 +155,9 @@ pub returns : goal.returns
 unfolding read
 returns c = let a = c.args in
     let over : c.loop-x.x ≡ 0 = omega (arith, c.loop-x-test.false) in
-    let bytes = handing-bytes c.requires.held.proper a.i a.v a.k c.loop-x.invariant over c.requires.v_bound.0 c.requires.v_bound.2 (stay-rest (goal.at.returns c).After-word) in record { rack_after = c.set_word.ensures ∙ bytes; handed_value = omega (arith, c.word_ones.ensures.0, go-count (goal.at.returns c).After-word); below_value = omega (arith, c.word_ones-2.ensures.0, stay-count (goal.at.returns c).After-word) }
+    let bytes = handing-bytes c.requires.held.proper a.i a.v a.k c.loop-x.invariant over c.requires.v_bound.0 c.requires.v_bound.2
+    (stay-rest (goal.at.returns c).After-word) in record {
+      rack_after = c.set_word.ensures ∙ bytes;
+      handed_value = omega (arith, c.word_ones.ensures.0, go-count (goal.at.returns c).After-word);
+      below_value = omega (arith, c.word_ones-2.ensures.0, stay-count (goal.at.returns c).After-word);
+    }

@@ -57,7 +57,9 @@ from_is at =
 rank_is : (c : After-rank-r) → c.rank-r.result ≡ (state (goal.at.After-rank-r c).At-loop-at).rank c.place-w.result
 rank_is c =
     let l = c.loop-at in
-    c.rank-r.ensures ∙ counted-rank (state (goal.at.After-rank-r c).At-loop-at) c.requires.held.proper l.invariant.counts l.rack l.invariant.is c.place-w.result (small (goal.at.After-rank-r c).After-place-w)
+    c.rank-r.ensures ∙ counted-rank
+    (state (goal.at.After-rank-r c).At-loop-at) c.requires.held.proper l.invariant.counts l.rack l.invariant.is c.place-w.result
+    (small (goal.at.After-rank-r c).After-place-w)
 
 rank-low : (c : After-place-w) → (state (goal.at.After-place-w c).At-loop-at).rank c.place-w.result ≤ c.args.i
 rank-low c =
@@ -75,7 +77,8 @@ counted c x p q r =
     let there : T (hit s a.i a.u w x) = hit-of s a.i a.u w x (owned c) (omega (arith, from_is (goal.at.After-place-w c).At-loop-at)) q r in
     omega (
       arith,
-      counted-phi s c.requires.held.proper l.invariant.counts l.rack l.invariant.is w x (small c) (omega (arith, level (goal.at.After-place-w c).At-loop-at)),
+      counted-phi s c.requires.held.proper l.invariant.counts l.rack l.invariant.is w x (small c)
+          (omega (arith, level (goal.at.After-place-w c).At-loop-at)),
       l.invariant.left w x (omega (arith, place c)),
       hit-counted s c.requires.held.proper a.i a.u w x there,
     )
@@ -83,7 +86,8 @@ counted c x p q r =
 -- after either branch w has its new counts
 turned : (c : Joined-r-from)
     → let a = c.args in
-    let w = c.place-w.result in Counted (state (goal.at.Joined-r-from c).At-loop-at) (upd c.loop-at.invariant.counts w (lowered_counts (state (goal.at.Joined-r-from c).At-loop-at) a.i a.u w)) c.if-r-from.rack
+    let w = c.place-w.result in Counted (state (goal.at.Joined-r-from c).At-loop-at)
+    (upd c.loop-at.invariant.counts w (lowered_counts (state (goal.at.Joined-r-from c).At-loop-at) a.i a.u w)) c.if-r-from.rack
 turned c =
     let a = c.args in
     let l = c.loop-at in
@@ -95,7 +99,8 @@ turned c =
     let step = lowered-turn (state (goal.at.Joined-r-from c).At-loop-at) c.requires.held.proper a.i a.u l.rack l.at l.invariant c.place-w.result c.if-r-from.rack (place (goal.at.Joined-r-from c).After-place-w) (small (goal.at.Joined-r-from c).After-place-w) under.2
     (owned (goal.at.Joined-r-from c).After-place-w) in
     elim c.if-r-from.branch [
-      | then-r-from k ↦ step from (omega arith) (omega (arith, k.if-r-from.true)) (λ x c q. omega arith) (omega arith) (k.rack-is ∙ k.step_counts.ensures)
+      | then-r-from k ↦ step from (omega arith) (omega (arith, k.if-r-from.true)) (λ x c q. omega arith) (omega arith)
+          (k.rack-is ∙ k.step_counts.ensures)
       | else-r-from k ↦ step c.rank-r.result (omega (arith, k.if-r-from.false)) (omega arith) (λ x c q. omega arith) (omega arith)
           (k.rack-is ∙ k.step_counts-else-r-from.ensures)
     ]
@@ -124,28 +129,53 @@ overflow_sub-i c = omega (arith, from_is (goal.at.overflow_sub-i c).At-loop-at)
 pub step_counts-requires : goal.step_counts-requires
 step_counts-requires c = let r = rank_is (goal.at.step_counts-requires c).After-rank-r in
     let f = from_is (goal.at.step_counts-requires c).At-loop-at in
-    record { sized = sized (goal.at.step_counts-requires c).At-loop-at; w_lt_most = (small (goal.at.step_counts-requires c).After-place-w, omega (arith, level (goal.at.step_counts-requires c).At-loop-at)); by_index = λ x a b. counted (goal.at.step_counts-requires c).After-place-w x a (omega arith) (omega arith) }
+    record {
+      sized = sized (goal.at.step_counts-requires c).At-loop-at;
+      w_lt_most = (small (goal.at.step_counts-requires c).After-place-w, omega (arith, level (goal.at.step_counts-requires c).At-loop-at));
+      by_index = λ x a b. counted (goal.at.step_counts-requires c).After-place-w x a (omega arith) (omega arith);
+    }
 
 pub overflow_add-i-else-r-from : goal.overflow_add-i-else-r-from
 overflow_add-i-else-r-from c = omega (arith, level (goal.at.overflow_add-i-else-r-from c).At-loop-at)
 
 pub overflow_sub-i-else-r-from : goal.overflow_sub-i-else-r-from
-overflow_sub-i-else-r-from c = omega (arith, rank_is (goal.at.overflow_sub-i-else-r-from c).After-rank-r, rank-low (goal.at.overflow_sub-i-else-r-from c).After-place-w)
+overflow_sub-i-else-r-from c = omega
+    (arith, rank_is (goal.at.overflow_sub-i-else-r-from c).After-rank-r, rank-low (goal.at.overflow_sub-i-else-r-from c).After-place-w)
 
 pub step_counts-requires-else-r-from : goal.step_counts-requires-else-r-from
 step_counts-requires-else-r-from c = let r = rank_is (goal.at.step_counts-requires-else-r-from c).After-rank-r in
     let b = rank-low (goal.at.step_counts-requires-else-r-from c).After-place-w in
-    record { sized = sized (goal.at.step_counts-requires-else-r-from c).At-loop-at; w_lt_most = (small (goal.at.step_counts-requires-else-r-from c).After-place-w, omega (arith, level (goal.at.step_counts-requires-else-r-from c).At-loop-at)); by_index = λ x a b. counted (goal.at.step_counts-requires-else-r-from c).After-place-w x (omega arith) (omega arith) (omega arith) }
+    record {
+      sized = sized (goal.at.step_counts-requires-else-r-from c).At-loop-at;
+      w_lt_most = (
+        small (goal.at.step_counts-requires-else-r-from c).After-place-w,
+        omega
+            (arith, level (goal.at.step_counts-requires-else-r-from c).At-loop-at),
+      );
+      by_index = λ x a b. counted (goal.at.step_counts-requires-else-r-from c).After-place-w x (omega arith) (omega arith) (omega arith);
+    }
 
 pub next-at-requires : goal.next-at-requires
-next-at-requires c = record { sized = counted-sized (state (goal.at.next-at-requires c).At-loop-at) c.requires.held.proper _ c.if-r-from.rack (turned c); v_lt_most = u-small (walk (goal.at.next-at-requires c).Start); rest_nonzero = some (goal.at.next-at-requires c).In-loop-at; word_bound = (c.loop-at.invariant.here (some (goal.at.next-at-requires c).In-loop-at)).inside }
+next-at-requires c = record {
+  sized = counted-sized (state (goal.at.next-at-requires c).At-loop-at) c.requires.held.proper _ c.if-r-from.rack (turned c);
+  v_lt_most = u-small (walk (goal.at.next-at-requires c).Start);
+  rest_nonzero = some (goal.at.next-at-requires c).In-loop-at;
+  word_bound = (c.loop-at.invariant.here (some (goal.at.next-at-requires c).In-loop-at)).inside;
+}
 
 pub loop-at-smaller : goal.loop-at-smaller
 loop-at-smaller c = let here = c.loop-at.invariant.here (some (goal.at.loop-at-smaller c).In-loop-at) in
-    omega (arith, small (goal.at.loop-at-smaller c).After-place-w, place (goal.at.loop-at-smaller c).After-place-w, further-less (row-whole low-good) (some (goal.at.loop-at-smaller c).In-loop-at) here c.next-at.ensures)
+    omega (
+      arith,
+      small (goal.at.loop-at-smaller c).After-place-w,
+      place (goal.at.loop-at-smaller c).After-place-w,
+      further-less (row-whole low-good)
+          (some (goal.at.loop-at-smaller c).In-loop-at) here c.next-at.ensures,
+    )
 
 pub loop-at-preserved : goal.loop-at-preserved
-loop-at-preserved c = row-goes-on (walk (goal.at.loop-at-preserved c).Start) c.loop-at.invariant (some (goal.at.loop-at-preserved c).In-loop-at) c.place-w.ensures (turned (goal.at.loop-at-preserved c).Joined-r-from) c.next-at.ensures
+loop-at-preserved c = row-goes-on (walk (goal.at.loop-at-preserved c).Start) c.loop-at.invariant
+    (some (goal.at.loop-at-preserved c).In-loop-at) c.place-w.ensures (turned (goal.at.loop-at-preserved c).Joined-r-from) c.next-at.ensures
 
 pub shape_of-rack : goal.shape_of-rack
 shape_of-rack c = same_size (walk (goal.at.shape_of-rack c).Start) c.loop-at.invariant

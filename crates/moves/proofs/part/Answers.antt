@@ -30,7 +30,8 @@ module _ {bs : List ℕ} (h : Held low bs) {v : ℕ} (l : v < (read low bs).n) {
 
   parts : m ≢ no_mate → set_mate low (set_mate low bs m no_mate) v no_mate ≡ write (part v (read low bs))
   unfolding read
-  parts d = ap₂ (λ (b : List ℕ) (x : ℕ). set_mate low (set_mate low b x no_mate) v no_mate) h.written (named d) ∙ part-image (read low bs) h.proper v l
+  parts d = ap₂ (λ (b : List ℕ) (x : ℕ). set_mate low (set_mate low b x no_mate) v no_mate) h.written (named d) ∙ part-image
+      (read low bs) h.proper v l
 
 pub mate-m-requires : goal.mate-m-requires
 mate-m-requires c = record { sized = held-sized c.requires.held; v_lt_most = held_small c.requires.held c.args.v c.requires.v_bound }
@@ -39,10 +40,16 @@ pub returns-then-m : goal.returns-then-m
 returns-then-m c = stays c.requires.held c.requires.v_bound c.mate-m.ensures c.if-m.true
 
 pub set_mate-requires : goal.set_mate-requires
-set_mate-requires c = record { sized = held-sized c.requires.held; v_lt_most = within c.requires.held c.requires.v_bound c.mate-m.ensures c.if-m.false }
+set_mate-requires c = record {
+  sized = held-sized c.requires.held;
+  v_lt_most = within c.requires.held c.requires.v_bound c.mate-m.ensures c.if-m.false;
+}
 
 pub set_mate-requires-2 : goal.set_mate-requires-2
-set_mate-requires-2 c = record { sized = c.set_mate.auto.rack ∙ held-sized c.requires.held; v_lt_most = held_small c.requires.held c.args.v c.requires.v_bound }
+set_mate-requires-2 c = record {
+  sized = c.set_mate.auto.rack ∙ held-sized c.requires.held;
+  v_lt_most = held_small c.requires.held c.args.v c.requires.v_bound;
+}
 
 pub returns : goal.returns
 returns c = c.set_mate-2.ensures ∙ ap (λ (bs : List ℕ). set_mate low bs c.args.v no_mate) c.set_mate.ensures

@@ -57,12 +57,14 @@ raised : (c : After-phi-c)
 raised c =
     let a = c.args in
     let l = c.loop-at in
-    raised_is (state (goal.at.After-phi-c c).At-loop-at) c.requires.held.proper a.i a.v l.rack l.at l.invariant.0 c.place-w.result c.phi-c.result (place (goal.at.After-phi-c c).After-place-w) (small (goal.at.After-phi-c c).After-place-w) c.requires.v_bound.2
+    raised_is (state (goal.at.After-phi-c c).At-loop-at) c.requires.held.proper a.i a.v l.rack l.at l.invariant.0 c.place-w.result c.phi-c.result
+    (place (goal.at.After-phi-c c).After-place-w) (small (goal.at.After-phi-c c).After-place-w) c.requires.v_bound.2
     (owned (goal.at.After-phi-c c).After-place-w) c.phi-c.ensures
 
 turned : (c : After-set_phi)
     → let a = c.args in
-    let w = c.place-w.result in Counted (state (goal.at.After-set_phi c).At-loop-at) (upd c.loop-at.invariant.0.counts w (raised_counts (state (goal.at.After-set_phi c).At-loop-at) a.i a.v w)) c.set_phi.new.rack
+    let w = c.place-w.result in Counted (state (goal.at.After-set_phi c).At-loop-at)
+    (upd c.loop-at.invariant.0.counts w (raised_counts (state (goal.at.After-set_phi c).At-loop-at) a.i a.v w)) c.set_phi.new.rack
 turned c =
     let a = c.args in
     let l = c.loop-at in
@@ -76,11 +78,16 @@ lows c =
     let a = c.args in
     let w = c.place-w.result in
     let r = raised (goal.at.After-next-at c).After-phi-c in
-    let next = came-next (walk (goal.at.After-next-at c).Start) c.loop-at.invariant.0 (some (goal.at.After-next-at c).In-loop-at) c.place-w.ensures (turned (goal.at.After-next-at c).After-set_phi) c.next-at.ensures in
+    let next = came-next (walk (goal.at.After-next-at c).Start) c.loop-at.invariant.0 (some (goal.at.After-next-at c).In-loop-at) c.place-w.ensures
+    (turned (goal.at.After-next-at c).After-set_phi) c.next-at.ensures in
     elim c.if-bar-c.branch [
-      | then-bar-c k ↦ says_is k.low-is (low-no a.bar (state (goal.at.After-next-at c).At-loop-at) a.i a.v (reached low.most c.loop-at.at) w (place (goal.at.After-next-at c).After-place-w) c.loop-at.invariant.1 next (owned (goal.at.After-next-at c).After-place-w)
+      | then-bar-c k ↦ says_is k.low-is
+          (low-no a.bar (state (goal.at.After-next-at c).At-loop-at) a.i a.v (reached low.most c.loop-at.at) w
+          (place (goal.at.After-next-at c).After-place-w) c.loop-at.invariant.1 next (owned (goal.at.After-next-at c).After-place-w)
           (omega (arith, k.if-bar-c.true)))
-      | else-bar-c k ↦ says_is k.low-is (low-yes a.bar (state (goal.at.After-next-at c).At-loop-at) a.i a.v (reached low.most c.loop-at.at) w (place (goal.at.After-next-at c).After-place-w) c.loop-at.invariant.1 next
+      | else-bar-c k ↦ says_is k.low-is
+          (low-yes a.bar (state (goal.at.After-next-at c).At-loop-at) a.i a.v (reached low.most c.loop-at.at) w
+          (place (goal.at.After-next-at c).After-place-w) c.loop-at.invariant.1 next
           (omega (arith, k.if-bar-c.false)))
     ]
 
@@ -88,14 +95,21 @@ pub first-at-requires : goal.first-at-requires
 first-at-requires c = record { sized = held-sized c.requires.held; v_lt_most = u-small (walk (goal.at.first-at-requires c).Start) }
 
 pub loop-at-init : goal.loop-at-init
-loop-at-init c = let a = c.args in
-    (row-starts (walk (goal.at.loop-at-init c).Start) c.first-at.ensures, low-start a.bar (read low a.rack.now) a.i a.v (came-first (walk (goal.at.loop-at-init c).Start) c.first-at.ensures))
+loop-at-init c = let a = c.args in (
+  row-starts (walk (goal.at.loop-at-init c).Start) c.first-at.ensures,
+  low-start a.bar (read low a.rack.now) a.i a.v
+      (came-first (walk (goal.at.loop-at-init c).Start) c.first-at.ensures),
+)
 
 pub place-w-requires : goal.place-w-requires
 place-w-requires c = record { rest_nonzero = some c; word_bound = (c.loop-at.invariant.0.here (some c)).inside }
 
 pub phi-c-requires : goal.phi-c-requires
-phi-c-requires c = record { sized = sized (goal.at.phi-c-requires c).At-loop-at; v_lt_most = small c; j_lt_levels = level (goal.at.phi-c-requires c).At-loop-at }
+phi-c-requires c = record {
+  sized = sized (goal.at.phi-c-requires c).At-loop-at;
+  v_lt_most = small c;
+  j_lt_levels = level (goal.at.phi-c-requires c).At-loop-at;
+}
 
 fits : (c : After-phi-c) → c.phi-c.result + 1 < low.most
 fits c =
@@ -107,24 +121,48 @@ pub overflow_add-c : goal.overflow_add-c
 overflow_add-c c = omega (arith, fits c)
 
 pub set_phi-requires : goal.set_phi-requires
-set_phi-requires c = record { sized = sized (goal.at.set_phi-requires c).At-loop-at; v_lt_most = small (goal.at.set_phi-requires c).After-place-w; j_lt_levels = level (goal.at.set_phi-requires c).At-loop-at }
+set_phi-requires c = record {
+  sized = sized (goal.at.set_phi-requires c).At-loop-at;
+  v_lt_most = small (goal.at.set_phi-requires c).After-place-w;
+  j_lt_levels = level (goal.at.set_phi-requires c).At-loop-at;
+}
 
 pub overflow_cast-c : goal.overflow_cast-c
 overflow_cast-c c = omega (arith, fits (goal.at.overflow_cast-c c).After-phi-c)
 
 pub next-at-requires : goal.next-at-requires
-next-at-requires c = record { sized = counted-sized (state (goal.at.next-at-requires c).At-loop-at) c.requires.held.proper _ c.set_phi.new.rack (turned (goal.at.next-at-requires c).After-set_phi); v_lt_most = u-small (walk (goal.at.next-at-requires c).Start); rest_nonzero = some (goal.at.next-at-requires c).In-loop-at; word_bound = (c.loop-at.invariant.0.here (some (goal.at.next-at-requires c).In-loop-at)).inside }
+next-at-requires c = record {
+  sized = counted-sized (state (goal.at.next-at-requires c).At-loop-at) c.requires.held.proper _ c.set_phi.new.rack
+      (turned (goal.at.next-at-requires c).After-set_phi);
+  v_lt_most = u-small (walk (goal.at.next-at-requires c).Start);
+  rest_nonzero = some (goal.at.next-at-requires c).In-loop-at;
+  word_bound = (c.loop-at.invariant.0.here (some (goal.at.next-at-requires c).In-loop-at)).inside;
+}
 
 pub loop-at-smaller : goal.loop-at-smaller
 loop-at-smaller c = let here = c.loop-at.invariant.0.here (some (goal.at.loop-at-smaller c).In-loop-at) in
-    omega (arith, small (goal.at.loop-at-smaller c).After-place-w, place (goal.at.loop-at-smaller c).After-place-w, further-less (row-whole low-good) (some (goal.at.loop-at-smaller c).In-loop-at) here c.next-at.ensures)
+    omega (
+      arith,
+      small (goal.at.loop-at-smaller c).After-place-w,
+      place (goal.at.loop-at-smaller c).After-place-w,
+      further-less (row-whole low-good)
+          (some (goal.at.loop-at-smaller c).In-loop-at) here c.next-at.ensures,
+    )
 
 pub loop-at-preserved : goal.loop-at-preserved
-loop-at-preserved c = (row-goes-on (walk (goal.at.loop-at-preserved c).Start) c.loop-at.invariant.0 (some (goal.at.loop-at-preserved c).In-loop-at) c.place-w.ensures (turned (goal.at.loop-at-preserved c).After-set_phi) c.next-at.ensures, lows c)
+loop-at-preserved c = (
+  row-goes-on (walk (goal.at.loop-at-preserved c).Start) c.loop-at.invariant.0
+      (some (goal.at.loop-at-preserved c).In-loop-at) c.place-w.ensures (turned (goal.at.loop-at-preserved c).After-set_phi) c.next-at.ensures,
+  lows c,
+)
 
 pub shape_of-rack : goal.shape_of-rack
 shape_of-rack c = same_size (walk (goal.at.shape_of-rack c).Start) c.loop-at.invariant.0
 
 pub returns : goal.returns
 returns c = let l = c.loop-at in
-    record { rack_after = row_ends (walk (goal.at.returns c).Start) l.invariant.0 c.loop-at-test.false; says = low_end c.args.bar (state (goal.at.returns c).At-loop-at) c.requires.held.proper c.args.i c.args.v l.at c.loop-at-test.false l.invariant.1 }
+    record {
+      rack_after = row_ends (walk (goal.at.returns c).Start) l.invariant.0 c.loop-at-test.false;
+      says = low_end c.args.bar (state
+          (goal.at.returns c).At-loop-at) c.requires.held.proper c.args.i c.args.v l.at c.loop-at-test.false l.invariant.1;
+    }

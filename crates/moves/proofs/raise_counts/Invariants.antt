@@ -10,7 +10,8 @@ use Rattle.moves.proofs.CountWalk.{RowCounted, LowTo}
 use Rattle.moves.proofs.raise_counts.Given as goal
 
 abbrev pub invariant-loop-at : goal.invariant-loop-at
-invariant-loop-at l = let s = read low l.initial.rack in RowCounted low s (raised_counts s l.i l.v) l.v l.rack l.at × Says l.low (LowTo l.bar s l.i l.v (reached low.most l.at))
+invariant-loop-at l = let s = read low l.initial.rack in RowCounted low s (raised_counts s l.i l.v) l.v l.rack l.at × Says l.low
+    (LowTo l.bar s l.i l.v (reached low.most l.at))
 
 abbrev pub decreases-loop-at : goal.decreases-loop-at
 decreases-loop-at l = low.most - reached low.most l.at

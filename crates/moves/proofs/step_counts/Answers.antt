@@ -31,10 +31,16 @@ pub overflow_add-j-in-loop-x : goal.overflow_add-j-in-loop-x
 overflow_add-j-in-loop-x c = omega arith
 
 pub stepped-requires : goal.stepped-requires
-stepped-requires c = step-wider (more_of (goal.at.stepped-requires c).After-phi-c) c.phi-c.result (omega arith) (room (goal.at.stepped-requires c).After-phi-c)
+stepped-requires c = step-wider (more_of (goal.at.stepped-requires c).After-phi-c) c.phi-c.result (omega arith)
+    (room (goal.at.stepped-requires c).After-phi-c)
 
 pub overflow_cast-stepped : goal.overflow_cast-stepped
-overflow_cast-stepped c = omega (arith, c.stepped.ensures, step-below (more_of (goal.at.overflow_cast-stepped c).After-phi-c) 256 c.phi-c.result (omega arith) (room (goal.at.overflow_cast-stepped c).After-phi-c))
+overflow_cast-stepped c = omega (
+  arith,
+  c.stepped.ensures,
+  step-below (more_of (goal.at.overflow_cast-stepped c).After-phi-c) 256 c.phi-c.result (omega arith)
+      (room (goal.at.overflow_cast-stepped c).After-phi-c),
+)
 
 pub overflow_add-x : goal.overflow_add-x
 overflow_add-x c = omega arith

@@ -11,7 +11,8 @@ use Rattle.model.specs.Calls.{QueryAnswer, roster_query}
 use Rattle.pairing.proofs.pairing_roster.Goals as goal
 
 -- a figure of the query is that of the level asked for
-asked : (figure : QueryAnswer → ℕ) (bs : List ℕ) {a : ℕ} {z level : ℤ} → a ≡ figure (roster_query low bs z) → z ≡ level → a ≡ figure (roster_query low bs level)
+asked : (figure : QueryAnswer → ℕ) (bs : List ℕ) {a : ℕ} {z level : ℤ} → a ≡ figure (roster_query low bs z) → z ≡ level → a ≡ figure
+    (roster_query low bs level)
 asked figure bs e same = e ∙ ap (λ (i : ℤ). figure (roster_query low bs i)) same
 
 pub returns : goal.returns

@@ -38,4 +38,8 @@ loop-at-preserved c = not-before (take c.args.k c.args.queue.now) c.loop-at.inva
     (λ e. omega (arith, c.loop-at-test.true, e, first-at c.args.k c.args.queue.now c.loop-at.at (inside (goal.at.loop-at-preserved c).At-loop-at)))
 
 pub returns : goal.returns
-returns c = (inside (goal.at.returns c).At-loop-at, first-at c.args.k c.args.queue.now c.loop-at.at (inside (goal.at.returns c).At-loop-at) ∙ omega (arith, c.loop-at-test.false))
+returns c = (
+  inside (goal.at.returns c).At-loop-at,
+  first-at c.args.k c.args.queue.now c.loop-at.at (inside (goal.at.returns c).At-loop-at) ∙ omega
+      (arith, c.loop-at-test.false),
+)

@@ -104,5 +104,6 @@ overflow_add-result c = counted (all (goal.at.overflow_add-result c).After-put_l
 pub returns : goal.returns
 returns c =
     let a = c.args in
-    three-written (bytes "(done (draws ") _ (bytes ") (falls ") _ (bytes ") (pairs ") _ (bytes "))\n") (all (goal.at.returns c).After-put_literal-3).put
+    three-written (bytes "(done (draws ") _ (bytes ") (falls ") _ (bytes ") (pairs ") _ (bytes "))\n")
+    (all (goal.at.returns c).After-put_literal-3).put
     a.draws a.falls a.pairs (omega arith) (omega arith) (omega arith)

@@ -65,5 +65,6 @@ pub returns : goal.returns
 returns c =
     let a = c.args in
     put_as _ _ (long-parts _ _ _)
-    (pieces-written (bytes "(rack (boards ") _ (bytes ") (growth ") _ (bytes ") (top ") _ (bytes "))\n") (all (goal.at.returns c).After-put_literal).put
+    (pieces-written (bytes "(rack (boards ") _ (bytes ") (growth ") _ (bytes ") (top ") _ (bytes "))\n")
+    (all (goal.at.returns c).After-put_literal).put
     a.n a.growth a.top (omega arith) (omega arith) (omega arith))

@@ -32,7 +32,12 @@ pub overflow_add-end : goal.overflow_add-end
 overflow_add-end c = omega (arith, size c, (turn c).next.words-within, c.well_formed)
 
 pub offset_bounds-words-w : goal.offset_bounds-words-w
-offset_bounds-words-w c = omega (arith, size (goal.at.offset_bounds-words-w c).After-struct_known-1, (turn (goal.at.offset_bounds-words-w c).After-struct_known-1).next.words-within, c.well_formed)
+offset_bounds-words-w c = omega (
+  arith,
+  size (goal.at.offset_bounds-words-w c).After-struct_known-1,
+  (turn (goal.at.offset_bounds-words-w c).After-struct_known-1).next.words-within,
+  c.well_formed,
+)
 
 pub slice_bounds-put_change-count : goal.slice_bounds-put_change-count
 slice_bounds-put_change-count c = omega arith
@@ -41,7 +46,11 @@ pub slice_bounds-put_change-start : goal.slice_bounds-put_change-start
 slice_bounds-put_change-start c = omega arith
 
 pub slice_bounds-put_change-end : goal.slice_bounds-put_change-end
-slice_bounds-put_change-end c = omega (arith, size (goal.at.slice_bounds-put_change-end c).After-struct_known-1, (turn (goal.at.slice_bounds-put_change-end c).After-struct_known-1).next.words-within)
+slice_bounds-put_change-end c = omega (
+  arith,
+  size (goal.at.slice_bounds-put_change-end c).After-struct_known-1,
+  (turn (goal.at.slice_bounds-put_change-end c).After-struct_known-1).next.words-within,
+)
 
 pub slice_bounds-put_change-count-in-loop-k : goal.slice_bounds-put_change-count-in-loop-k
 slice_bounds-put_change-count-in-loop-k c = omega (arith, room (goal.at.slice_bounds-put_change-count-in-loop-k c).After-struct_known-1)
@@ -51,11 +60,19 @@ slice_bounds-put_change-start-in-loop-k c = omega (arith, room (goal.at.slice_bo
 
 pub put_change-m-requires : goal.put_change-m-requires
 put_change-m-requires c = let l = c.loop-k in
-    record { sounded = l.invariant.sounded; words_len_bound = (words-few l.invariant (turn (goal.at.put_change-m-requires c).After-struct_known-1) c.head_at-head.ensures, omega (arith, room (goal.at.put_change-m-requires c).After-struct_known-1, length_part l.at l.out)) }
+    record {
+      sounded = l.invariant.sounded;
+      words_len_bound = (
+        words-few l.invariant (turn (goal.at.put_change-m-requires c).After-struct_known-1) c.head_at-head.ensures,
+        omega
+            (arith, room (goal.at.put_change-m-requires c).After-struct_known-1, length_part l.at l.out),
+      );
+    }
 
 -- the state after the turn
 pub loop-k-preserved : goal.loop-k-preserved
-loop-k-preserved c = going-turn c.loop-k.invariant (turn (goal.at.loop-k-preserved c).After-struct_known-1) c.head_at-head.ensures (c.put_change-m.ensures.leaves, c.put_change-m.ensures.prints)
+loop-k-preserved c = going-turn c.loop-k.invariant (turn (goal.at.loop-k-preserved c).After-struct_known-1) c.head_at-head.ensures
+    (c.put_change-m.ensures.leaves, c.put_change-m.ensures.prints)
 
 pub overflow_add-at : goal.overflow_add-at
 overflow_add-at c =
@@ -78,7 +95,10 @@ slice_bounds-put_ending-start c = omega (arith, space c)
 
 pub put_ending-m-requires : goal.put_ending-m-requires
 put_ending-m-requires c = let l = c.loop-k in
-    record { sounded = l.invariant.sounded; ending_room_in_bounds = omega (arith, space (goal.at.put_ending-m-requires c).After-loop-k, length_part l.at l.out) }
+    record {
+      sounded = l.invariant.sounded;
+      ending_room_in_bounds = omega (arith, space (goal.at.put_ending-m-requires c).After-loop-k, length_part l.at l.out);
+    }
 
 pub returns : goal.returns
 returns c = going_end c.loop-k.invariant c.put_ending-m.ensures (omega (arith, c.loop-k-test.false))

@@ -36,7 +36,10 @@ slice_bounds-put_last-start c = omega (arith, room (goal.at.slice_bounds-put_las
 
 pub put_last-k-requires : goal.put_last-k-requires
 put_last-k-requires c = let w = c.put_pairs-at in
-    record { sounded = c.requires.sounded; end_room_in_bounds = omega (arith, room (goal.at.put_last-k-requires c).After-put_pairs-at, length_part w.result w.new.out) }
+    record {
+      sounded = c.requires.sounded;
+      end_room_in_bounds = omega (arith, room (goal.at.put_last-k-requires c).After-put_pairs-at, length_part w.result w.new.out);
+    }
 
 pub overflow_add-result : goal.overflow_add-result
 overflow_add-result c = record {

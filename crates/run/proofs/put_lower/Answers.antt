@@ -33,7 +33,8 @@ pub returns-then-m : goal.returns-then-m
 returns-then-m c = put_as _ _ (sym (part_free c.requires.sounded c.requires.v_bound.0 (sym c.mate-m.ensures ∙ c.if-m.true))) (put-none _)
 
 pub returns-then-m-v : goal.returns-then-m-v
-returns-then-m-v c = put_as _ _ (sym (part-upper c.requires.sounded c.requires.v_bound.0 (omega (arith, c.mate-m.ensures, c.if-m-v.true)))) (put-none _)
+returns-then-m-v c = put_as _ _ (sym (part-upper c.requires.sounded c.requires.v_bound.0 (omega (arith, c.mate-m.ensures, c.if-m-v.true))))
+    (put-none _)
 
 pub rank-level-requires : goal.rank-level-requires
 rank-level-requires c =
@@ -41,7 +42,12 @@ rank-level-requires c =
     record { sized = all.0; v_lt_most = all.1 }
 
 pub overflow_sub-level : goal.overflow_sub-level
-overflow_sub-level c = omega (arith, c.rank-level.ensures, part-rank c.requires.sounded c.requires.v_bound.0 (mated (goal.at.overflow_sub-level c).Else-m-v) (lower (goal.at.overflow_sub-level c).Else-m-v))
+overflow_sub-level c = omega (
+  arith,
+  c.rank-level.ensures,
+  part-rank c.requires.sounded c.requires.v_bound.0
+      (mated (goal.at.overflow_sub-level c).Else-m-v) (lower (goal.at.overflow_sub-level c).Else-m-v),
+)
 
 pub overflow_cast-v : goal.overflow_cast-v
 overflow_cast-v c = record { fits = omega (arith, (small (goal.at.overflow_cast-v c).Start).1) }
@@ -50,5 +56,6 @@ pub put_pair-requires : goal.put_pair-requires
 put_pair-requires c = c.requires.v_bound.1
 
 pub returns : goal.returns
-returns c = put-part c.requires.sounded c.requires.v_bound.0 (mated (goal.at.returns c).Else-m-v) (lower (goal.at.returns c).Else-m-v) refl c.mate-m.ensures (omega (arith, c.rank-level.ensures))
+returns c = put-part c.requires.sounded c.requires.v_bound.0 (mated (goal.at.returns c).Else-m-v)
+    (lower (goal.at.returns c).Else-m-v) refl c.mate-m.ensures (omega (arith, c.rank-level.ensures))
     c.put_pair.ensures

@@ -38,14 +38,23 @@ slice_bounds-put_lower-start c = omega (arith, room c)
 
 pub put_lower-k-requires : goal.put_lower-k-requires
 put_lower-k-requires c = let l = c.loop-v in
-    record { sounded = c.requires.sounded; v_bound = (inside (goal.at.put_lower-k-requires c).In-loop-v, omega (arith, room (goal.at.put_lower-k-requires c).In-loop-v, length_part l.at l.out)) }
+    record {
+      sounded = c.requires.sounded;
+      v_bound = (
+        inside (goal.at.put_lower-k-requires c).In-loop-v,
+        omega
+            (arith, room (goal.at.put_lower-k-requires c).In-loop-v, length_part l.at l.out),
+      );
+    }
 
 pub loop-v-preserved : goal.loop-v-preserved
-loop-v-preserved c = listed-turn c.requires.sounded c.requires.ending_room_in_bounds c.loop-v.invariant (inside (goal.at.loop-v-preserved c).In-loop-v) c.put_lower-k.ensures
+loop-v-preserved c = listed-turn c.requires.sounded c.requires.ending_room_in_bounds c.loop-v.invariant
+    (inside (goal.at.loop-v-preserved c).In-loop-v) c.put_lower-k.ensures
 
 pub overflow_add-at : goal.overflow_add-at
 overflow_add-at c =
-    let next = listed-turn c.requires.sounded c.requires.ending_room_in_bounds c.loop-v.invariant (inside (goal.at.overflow_add-at c).In-loop-v) c.put_lower-k.ensures in
+    let next = listed-turn c.requires.sounded c.requires.ending_room_in_bounds c.loop-v.invariant
+    (inside (goal.at.overflow_add-at c).In-loop-v) c.put_lower-k.ensures in
     record { fits = omega (arith, next.few, next.inside, held-few (sounded-held _ c.requires.sounded)) }
 
 pub loop-v-smaller : goal.loop-v-smaller
@@ -55,4 +64,5 @@ pub shape_of-out : goal.shape_of-out
 shape_of-out c = listed_kept c.requires.sounded c.requires.ending_room_in_bounds c.loop-v.invariant
 
 pub returns : goal.returns
-returns c = listed-end c.requires.sounded c.requires.ending_room_in_bounds c.loop-v.invariant (omega (arith, c.loop-v-test.false, size_is (goal.at.returns c).At-loop-v))
+returns c = listed-end c.requires.sounded c.requires.ending_room_in_bounds c.loop-v.invariant
+    (omega (arith, c.loop-v-test.false, size_is (goal.at.returns c).At-loop-v))

@@ -33,10 +33,14 @@ made : (d : Start) → let K = kind_named (named_by d.args.settings) in let bs =
 made d = fresh _ (named_by d.args.settings) _ d.requires.n_value.0 d.requires.n_value.1
 
 pub put_changes-m-requires : goal.put_changes-m-requires
-put_changes-m-requires c = record { sounded = (made (goal.at.put_changes-m-requires c).Start).0; ready = ready c.requires.recordable c.put_first-at.ensures }
+put_changes-m-requires c = record {
+  sounded = (made (goal.at.put_changes-m-requires c).Start).0;
+  ready = ready c.requires.recordable c.put_first-at.ensures;
+}
 
 pub returns : goal.returns
-returns c = written c.requires.recordable c.put_first-at.ensures ((made (goal.at.returns c).Start).1, (made (goal.at.returns c).Start).2) c.put_changes-m.ensures
+returns c = written c.requires.recordable c.put_first-at.ensures
+    ((made (goal.at.returns c).Start).1, (made (goal.at.returns c).Start).2) c.put_changes-m.ensures
 
 fits : (c : After-slice_known-5-1)
     → c.put_first-at.result + c.put_changes-m.result ≤ length c.args.space.now

@@ -33,11 +33,17 @@ returns-then-text-gt-TEXT_LIMIT c = let r = c.turned_back-then-text-gt-TEXT_LIMI
 
 pub returns-then-space-lt-RECORD_SPACE : goal.returns-then-space-lt-RECORD_SPACE
 returns-then-space-lt-RECORD_SPACE c = let r = c.turned_back-then-space-lt-RECORD_SPACE.ensures in
-    ran-back (space-short (sized-is (goal.at.returns-then-space-lt-RECORD_SPACE c).Else-not-sized) (omega (arith, c.if-text-gt-TEXT_LIMIT.false)) (omega (arith, c.if-space-lt-RECORD_SPACE.true)))
+    ran-back (space-short (sized-is (goal.at.returns-then-space-lt-RECORD_SPACE c).Else-not-sized) (omega (arith, c.if-text-gt-TEXT_LIMIT.false))
+    (omega (arith, c.if-space-lt-RECORD_SPACE.true)))
     (omega (arith, r.0)) (omega (arith, r.1)) (omega (arith, r.2))
 
 pub read-requires : goal.read-requires
-read-requires c = ((lent (goal.at.read-requires c).Else-space-lt-RECORD_SPACE).short, omega (arith, c.heads_space-heads.ensures), omega (arith, c.words_space-words.ensures))
+read-requires c = (
+  (lent (goal.at.read-requires c).Else-space-lt-RECORD_SPACE).short,
+  omega (arith, c.heads_space-heads.ensures),
+  omega
+      (arith, c.words_space-words.ensures),
+)
 
 pub put_blank-requires : goal.put_blank-requires
 put_blank-requires c = omega (arith, (lent (goal.at.put_blank-requires c).Else-space-lt-RECORD_SPACE).wide)
@@ -49,7 +55,8 @@ taken-requires c = let g = lent (goal.at.taken-requires c).Else-space-lt-RECORD_
 pub returns-in-Blank : goal.returns-in-Blank
 returns-in-Blank c = let r = c.recorded.ensures in
     let none = subst (Checks _ _ _) c.in-Blank.is c.read.ensures in
-    took-blank (lent (goal.at.returns-in-Blank c).Else-space-lt-RECORD_SPACE) none c.put_blank.ensures (omega (arith, r.0)) (omega (arith, r.1)) (omega (arith, r.2))
+    took-blank (lent (goal.at.returns-in-Blank c).Else-space-lt-RECORD_SPACE) none c.put_blank.ensures (omega (arith, r.0)) (omega (arith, r.1))
+    (omega (arith, r.2))
 
 pub returns-in-Bad : goal.returns-in-Bad
 returns-in-Bad c = let r = c.turned_back-in-Bad.ensures in

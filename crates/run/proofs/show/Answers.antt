@@ -19,7 +19,8 @@ pub shape_of-space-then-answer-eq0 : goal.shape_of-space-then-answer-eq0
 shape_of-space-then-answer-eq0 c = c.run-answer.auto.space
 
 pub returns-then-answer-eq0 : goal.returns-then-answer-eq0
-returns-then-answer-eq0 c = shown-record c.run-answer.ensures (omega (arith, c.if-answer-eq0.true)) (wide (goal.at.returns-then-answer-eq0 c).After-run-answer)
+returns-then-answer-eq0 c = shown-record c.run-answer.ensures (omega (arith, c.if-answer-eq0.true))
+    (wide (goal.at.returns-then-answer-eq0 c).After-run-answer)
 
 pub overflow_cast-answer : goal.overflow_cast-answer
 overflow_cast-answer c = record { fits = omega (arith, line-few _ _ _ c.run-answer.ensures) }

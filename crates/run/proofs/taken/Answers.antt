@@ -16,12 +16,15 @@ asked c = kind_named (named_by c.args.settings)
 
 -- the rack was made
 rack-made : (c : Else-k-ne0) → let n = c.args.n in
-    (asked_number (asked (goal.at.Else-k-ne0 c).After-make-k) n ≡ 0) × (c.make-k.new.rack ≡ write (empty (asked (goal.at.Else-k-ne0 c).After-make-k) n))
-rack-made c = made-new (asked (goal.at.Else-k-ne0 c).After-make-k) _ _ c.requires.rack_value (c.make-k.ensures.number, c.make-k.ensures.leaves) c.if-k-ne0.false
+    (asked_number (asked (goal.at.Else-k-ne0 c).After-make-k) n ≡ 0) ×
+    (c.make-k.new.rack ≡ write (empty (asked (goal.at.Else-k-ne0 c).After-make-k) n))
+rack-made c = made-new (asked (goal.at.Else-k-ne0 c).After-make-k) _ _ c.requires.rack_value
+    (c.make-k.ensures.number, c.make-k.ensures.leaves) c.if-k-ne0.false
 
 pub returns-then-k-ne0 : goal.returns-then-k-ne0
 returns-then-k-ne0 c = let d = c.if-k-ne0.true in
-    let b = made-back (asked (goal.at.returns-then-k-ne0 c).After-make-k) _ _ c.requires.rack_value (c.make-k.ensures.number, c.make-k.ensures.leaves) d in
+    let b = made-back (asked (goal.at.returns-then-k-ne0 c).After-make-k) _ _ c.requires.rack_value
+    (c.make-k.ensures.number, c.make-k.ensures.leaves) d in
     let r = c.turned_back.ensures in
     took-back _ _ _ _ (named_by c.args.settings) b.0 d (omega (arith, r.0)) (omega (arith, r.1)) (omega (arith, r.2)) b.1 refl
 

@@ -33,7 +33,11 @@ nth_owned-y-requires c = let a = c.args in
     let h = c.requires.held.0 in
     let size = row-degree a.rack.now h a.i a.u c.requires.u_bound.0 c.requires.row_below.0 in
     let less = place-less a.words.now a.tally.draws a.k (among (goal.at.nth_owned-y-requires c).Start).0 in
-    record { sized = held-sized h; v_lt_most = held_small h _ c.requires.u_bound.0; k_bound = omega (arith, c.requires.row_below.2, size, less, c.decide-by.ensures.1) }
+    record {
+      sized = held-sized h;
+      v_lt_most = held_small h _ c.requires.u_bound.0;
+      k_bound = omega (arith, c.requires.row_below.2, size, less, c.decide-by.ensures.1);
+    }
 
 chosen_is : (c : After-nth_owned-y)
     → (c.nth_owned-y.result ≡ chosen c.args.words.now c.args.i c.args.u (running low c.args.rack.now [] c.args.tally))
@@ -48,7 +52,11 @@ drawing c = drawing-of c.requires.held.0 c.requires.held.1 c.requires.u_bound (c
 
 pub lift-waiting-requires : goal.lift-waiting-requires
 lift-waiting-requires c = let d = drawing (goal.at.lift-waiting-requires c).After-nth_owned-y in
-    let a = d.rising in record { held = (a.held, a.ordered); v_bound = (a.inside, a.low, a.level); can_part = but-part _ c.requires.holds_waiting_but.0 _ a.inside (λ e. drawing-other d (sym e)) }
+    let a = d.rising in record {
+      held = (a.held, a.ordered);
+      v_bound = (a.inside, a.low, a.level);
+      can_part = but-part _ c.requires.holds_waiting_but.0 _ a.inside (λ e. drawing-other d (sym e));
+    }
 
 pub pair-requires : goal.pair-requires
 pair-requires c =
@@ -71,4 +79,5 @@ spent-is c e =
 pub returns : goal.returns
 returns c = let w = c.waits.ensures in
     drawn-left (drawing (goal.at.returns c).After-nth_owned-y) c.lift-waiting.ensures.rack_after c.requires.holds_waiting_but.0 c.lift-waiting.ensures.queue_is c.lift-waiting.auto.queue c.args.words.now
-    (chosen_is (goal.at.returns c).After-nth_owned-y).0 c.pair.ensures (spent-is (goal.at.returns c).After-nth_owned-y (omega (arith, w.0, c.drew-t.ensures.0)), w.1 ∙ c.drew-t.ensures.1, w.2)
+    (chosen_is (goal.at.returns c).After-nth_owned-y).0 c.pair.ensures
+    (spent-is (goal.at.returns c).After-nth_owned-y (omega (arith, w.0, c.drew-t.ensures.0)), w.1 ∙ c.drew-t.ensures.1, w.2)

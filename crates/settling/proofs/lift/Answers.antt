@@ -5,7 +5,13 @@ use Rattle.settling.proofs.lift.Goals.{Start}
 use Rattle.settling.proofs.lift.Goals as goal
 
 rising : (c : Start) → Rising low c.args.rack.now c.args.i c.args.v
-rising c = record { held = c.requires.held.0; ordered = c.requires.held.1; inside = c.requires.v_bound.0; low = c.requires.v_bound.1; level = c.requires.v_bound.2 }
+rising c = record {
+  held = c.requires.held.0;
+  ordered = c.requires.held.1;
+  inside = c.requires.v_bound.0;
+  low = c.requires.v_bound.1;
+  level = c.requires.v_bound.2;
+}
 
 pub rise-requires : goal.rise-requires
 rise-requires c =

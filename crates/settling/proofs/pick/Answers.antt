@@ -47,7 +47,10 @@ pub overflow_cast-v : goal.overflow_cast-v
 overflow_cast-v c = record { fits = omega (arith, c.shared_slice_known-in-loop-j-1.given c.loop-j.j) }
 
 pub rank-r-requires : goal.rank-r-requires
-rank-r-requires c = let h = c.requires.held in record { sized = held-sized h; v_lt_most = held_small h _ (inside (goal.at.rank-r-requires c).In-loop-j) }
+rank-r-requires c = let h = c.requires.held in record {
+  sized = held-sized h;
+  v_lt_most = held_small h _ (inside (goal.at.rank-r-requires c).In-loop-j);
+}
 
 pub overflow_add-j : goal.overflow_add-j
 overflow_add-j c = let h = there (goal.at.overflow_add-j c).In-loop-j in search rules
@@ -60,15 +63,22 @@ ranked : (c : After-rank-r) →
     let a = c.args in
     c.rank-r.result ≡ (read low a.rack.now).rank (get_or (take a.k a.queue.now) c.loop-j.j 0)
 ranked c =
-    c.rank-r.ensures ∙ held-rank c.requires.held _ (held_small c.requires.held _ (inside (goal.at.After-rank-r c).In-loop-j)) ∙ ap (read low c.args.rack.now).rank (sym (entry (goal.at.After-rank-r c).In-loop-j))
+    c.rank-r.ensures ∙ held-rank c.requires.held _ (held_small c.requires.held _ (inside (goal.at.After-rank-r c).In-loop-j)) ∙ ap
+    (read low c.args.rack.now).rank (sym (entry (goal.at.After-rank-r c).In-loop-j))
 
 pub loop-j-preserved : goal.loop-j-preserved
 loop-j-preserved c = let a = c.args in
     let f = (read low a.rack.now).rank in
     let q = take a.k a.queue.now in (
       elim c.if-best-r.branch [
-        | then-best-r w ↦ rw (w.best-is ∙ ranked (goal.at.loop-j-preserved c).After-rank-r, w.at-is ∙ sym (entry (goal.at.loop-j-preserved c).In-loop-j)) (best-more f q c.loop-j.invariant.0 (omega (arith, ranked (goal.at.loop-j-preserved c).After-rank-r, w.if-best-r.true)))
-        | else-best-r w ↦ rw (w.best-is, w.at-is) (best-same f q c.loop-j.invariant.0 (omega (arith, ranked (goal.at.loop-j-preserved c).After-rank-r, w.if-best-r.false)))
+        | then-best-r w ↦ rw (
+          w.best-is ∙ ranked (goal.at.loop-j-preserved c).After-rank-r,
+          w.at-is ∙ sym
+              (entry (goal.at.loop-j-preserved c).In-loop-j),
+        ) (best-more f q c.loop-j.invariant.0
+            (omega (arith, ranked (goal.at.loop-j-preserved c).After-rank-r, w.if-best-r.true)))
+        | else-best-r w ↦ rw (w.best-is, w.at-is)
+            (best-same f q c.loop-j.invariant.0 (omega (arith, ranked (goal.at.loop-j-preserved c).After-rank-r, w.if-best-r.false)))
       ],
       omega (arith, c.loop-j-test.true),
     )
@@ -81,7 +91,8 @@ past c =
     omega (arith, length-first c.args.k c.args.queue.now c.requires.k_in_bounds.0, c.loop-j-test.false, c.loop-j.invariant.1)
 
 pub returns-then-best-eq0 : goal.returns-then-best-eq0
-returns-then-best-eq0 c = sym (best-nothing c.loop-j.invariant.0 (past (goal.at.returns-then-best-eq0 c).After-loop-j) (suc (top_at c.args.rack.now)) c.if-best-eq0.true)
+returns-then-best-eq0 c = sym (best-nothing c.loop-j.invariant.0 (past (goal.at.returns-then-best-eq0 c).After-loop-j)
+    (suc (top_at c.args.rack.now)) c.if-best-eq0.true)
 
 -- ranks are small
 small : (c : Else-best-eq0) → (1 ≤ c.loop-j.best) × (c.loop-j.best ≤ suc (top_at c.args.rack.now))

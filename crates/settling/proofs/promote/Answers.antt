@@ -9,7 +9,13 @@ use Rattle.settling.proofs.promote.Goals.{Start}
 use Rattle.settling.proofs.promote.Goals as goal
 
 rising : (c : Start) → Rising low c.args.rack.now c.args.i c.args.u
-rising c = record { held = c.requires.held.0; ordered = c.requires.held.1; inside = c.requires.u_bound.0; low = c.requires.u_bound.1; level = c.requires.u_bound.2 }
+rising c = record {
+  held = c.requires.held.0;
+  ordered = c.requires.held.1;
+  inside = c.requires.u_bound.0;
+  low = c.requires.u_bound.1;
+  level = c.requires.u_bound.2;
+}
 
 pub phi-k-requires : goal.phi-k-requires
 phi-k-requires c = let a = rising (goal.at.phi-k-requires c).Start in

@@ -13,7 +13,13 @@ use Rattle.settling.proofs.scan.Goals.{In-loop-at, Start}
 use Rattle.settling.proofs.scan.Goals as goal
 
 begun : (c : Start) → ScanFrom low c.args.words.now c.args.i c.args.v c.args.rack.now c.args.queue.now c.args.tally
-begun c = record { held = c.requires.held.0; ordered = c.requires.held.1; inside = c.requires.v_bound.0; level = c.requires.v_bound.1; row = c.requires.v_bound.2 }
+begun c = record {
+  held = c.requires.held.0;
+  ordered = c.requires.held.1;
+  inside = c.requires.v_bound.0;
+  level = c.requires.v_bound.1;
+  row = c.requires.v_bound.2;
+}
 
 v-small : (c : Start) → c.args.v < low.most
 v-small c = held_small c.requires.held.0 c.args.v c.requires.v_bound.0
@@ -35,12 +41,19 @@ place-w-requires c = record { rest_nonzero = some c; word_bound = (here c).insid
 
 pub visit-t-requires : goal.visit-t-requires
 visit-t-requires c =
-    let all = scan-visits (begun (goal.at.visit-t-requires c).Start) c.loop-at.invariant (some (goal.at.visit-t-requires c).In-loop-at) c.place-w.ensures c.requires.v_bound.3 c.requires.holds_waiting.1
+    let all = scan-visits (begun (goal.at.visit-t-requires c).Start) c.loop-at.invariant
+    (some (goal.at.visit-t-requires c).In-loop-at) c.place-w.ensures c.requires.v_bound.3 c.requires.holds_waiting.1
     (omega arith) in
     record { held = all.0; w_bound = all.1.0; holds_waiting = all.1.1 }
 
 pub next-at-requires : goal.next-at-requires
-next-at-requires c = record { sized = scan-sized (begun (goal.at.next-at-requires c).Start) c.loop-at.invariant (some (goal.at.next-at-requires c).In-loop-at) c.place-w.ensures c.visit-t.ensures; v_lt_most = v-small (goal.at.next-at-requires c).Start; rest_nonzero = some (goal.at.next-at-requires c).In-loop-at; word_bound = (here (goal.at.next-at-requires c).In-loop-at).inside }
+next-at-requires c = record {
+  sized = scan-sized (begun (goal.at.next-at-requires c).Start) c.loop-at.invariant
+      (some (goal.at.next-at-requires c).In-loop-at) c.place-w.ensures c.visit-t.ensures;
+  v_lt_most = v-small (goal.at.next-at-requires c).Start;
+  rest_nonzero = some (goal.at.next-at-requires c).In-loop-at;
+  word_bound = (here (goal.at.next-at-requires c).In-loop-at).inside;
+}
 
 pub loop-at-smaller : goal.loop-at-smaller
 loop-at-smaller c = omega (
@@ -51,7 +64,8 @@ loop-at-smaller c = omega (
 )
 
 pub loop-at-preserved : goal.loop-at-preserved
-loop-at-preserved c = scan-again (begun (goal.at.loop-at-preserved c).Start) c.loop-at.invariant (some (goal.at.loop-at-preserved c).In-loop-at) c.place-w.ensures c.visit-t.ensures c.visit-t.auto.queue c.next-at.ensures
+loop-at-preserved c = scan-again (begun (goal.at.loop-at-preserved c).Start) c.loop-at.invariant
+    (some (goal.at.loop-at-preserved c).In-loop-at) c.place-w.ensures c.visit-t.ensures c.visit-t.auto.queue c.next-at.ensures
 
 pub shape_of-rack : goal.shape_of-rack
 shape_of-rack c = scanning-sized (begun (goal.at.shape_of-rack c).Start) c.loop-at.invariant ∙ sym (held-sized c.requires.held.0)

@@ -34,7 +34,10 @@ loop-left-init c = going_start _ _ _ _ _ c.requires.held.0 c.requires.held.1 c.r
 pub pick-requires : goal.pick-requires
 pick-requires c = let l = c.loop-left in
     let h = l.invariant.holds in
-    record { held = l.invariant.held; k_in_bounds = (h.within, all_of (λ v. v < (read low l.rack).n) (queue_in l.queue l.t) (λ v m. (h.lists.only v m).0)) }
+    record {
+      held = l.invariant.held;
+      k_in_bounds = (h.within, all_of (λ v. v < (read low l.rack).n) (queue_in l.queue l.t) (λ v m. (h.lists.only v m).0));
+    }
 
 -- a rack that is held has one length, and the places lent stay as many
 rack-length : (c : At-loop-left) →
@@ -70,7 +73,11 @@ some_left c = c.loop-left-test.true
 pub take-t-requires : goal.take-t-requires
 take-t-requires c = let g = c.loop-left.invariant in
     let a = taking-of _ _ _ _ _ g.held.proper g.holds (picked (goal.at.take-t-requires c).In-At) in
-    record { held = (g.held, g.ordered); v_bound = (a.inside, a.free, a.rank, a.level); holds_waiting = (g.holds, going-room g (some_left (goal.at.take-t-requires c).In-At)) }
+    record {
+      held = (g.held, g.ordered);
+      v_bound = (a.inside, a.free, a.rank, a.level);
+      holds_waiting = (g.holds, going-room g (some_left (goal.at.take-t-requires c).In-At));
+    }
 
 pub overflow_sub-left : goal.overflow_sub-left
 overflow_sub-left c = omega (arith, some_left (goal.at.overflow_sub-left c).In-At)
@@ -79,7 +86,8 @@ pub loop-left-smaller : goal.loop-left-smaller
 loop-left-smaller c = omega (arith, some_left (goal.at.loop-left-smaller c).In-At)
 
 pub loop-left-preserved : goal.loop-left-preserved
-loop-left-preserved c = going_on c.loop-left.invariant (picked (goal.at.loop-left-preserved c).In-At) _ (omega (arith, some_left (goal.at.loop-left-preserved c).In-At))
+loop-left-preserved c = going_on c.loop-left.invariant (picked (goal.at.loop-left-preserved c).In-At) _
+    (omega (arith, some_left (goal.at.loop-left-preserved c).In-At))
     c.take-t.ensures c.take-t.auto.queue
 
 pub shape_of-rack : goal.shape_of-rack

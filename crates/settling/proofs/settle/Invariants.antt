@@ -8,7 +8,8 @@ use Rattle.settling.proofs.SettleLoop.{TakingsLeft}
 use Rattle.settling.proofs.settle.Given as goal
 
 abbrev pub invariant-loop-left : goal.invariant-loop-left
-invariant-loop-left l = TakingsLeft low (rules_at l.initial.rack) l.words (running low l.initial.rack l.initial.queue l.initial.t) (length l.initial.queue) l.rack l.queue l.left l.t
+invariant-loop-left l = TakingsLeft low (rules_at l.initial.rack) l.words (running low l.initial.rack l.initial.queue l.initial.t)
+    (length l.initial.queue) l.rack l.queue l.left l.t
 
 abbrev pub decreases-loop-left : goal.decreases-loop-left
 decreases-loop-left l = l.left

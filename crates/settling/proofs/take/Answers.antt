@@ -49,19 +49,29 @@ few c = omega (arith, c.if-bar-k.false, bar-is (goal.at.Else-bar-k c).After-thre
 
 pub threshold-bar-requires : goal.threshold-bar-requires
 threshold-bar-requires c = let h = (handed-held (handed (goal.at.threshold-bar-requires c).After-hand_over-k)).0 in
-    record { sized = held-sized h; in_range = held-range h; j_lt_levels = omega (arith, held-room h, (handed-falls (handed (goal.at.threshold-bar-requires c).After-hand_over-k) refl).level) }
+    record {
+      sized = held-sized h;
+      in_range = held-range h;
+      j_lt_levels = omega (arith, held-room h, (handed-falls (handed (goal.at.threshold-bar-requires c).After-hand_over-k) refl).level);
+    }
 
 pub draw-requires : goal.draw-requires
 draw-requires c =
-    let all = handed-draws (handed (goal.at.draw-requires c).After-hand_over-k) (enough (goal.at.draw-requires c).Then-bar-k) (omega (arith, c.requires.holds_waiting.1.draws)) in
+    let all = handed-draws (handed (goal.at.draw-requires c).After-hand_over-k) (enough (goal.at.draw-requires c).Then-bar-k)
+    (omega (arith, c.requires.holds_waiting.1.draws)) in
     record { held = all.0; u_bound = all.1.0; row_below = all.1.1.0; holds_waiting_but = all.1.1.1 }
 
 pub returns-then-bar-k : goal.returns-then-bar-k
-returns-then-bar-k c = taken-draws (handed (goal.at.returns-then-bar-k c).After-hand_over-k) c.args.words.now (enough (goal.at.returns-then-bar-k c).Then-bar-k) c.draw.ensures
+returns-then-bar-k c = taken-draws (handed (goal.at.returns-then-bar-k c).After-hand_over-k) c.args.words.now
+    (enough (goal.at.returns-then-bar-k c).Then-bar-k) c.draw.ensures
 
 pub fall-requires : goal.fall-requires
 fall-requires c = let a = handed (goal.at.fall-requires c).After-hand_over-k in
-    record { held = handed-held a; falling = handed-falls a c.threshold-bar.ensures; holds_waiting_but = (handed-waits a, room_as a.left c.requires.holds_waiting.1) }
+    record {
+      held = handed-held a;
+      falling = handed-falls a c.threshold-bar.ensures;
+      holds_waiting_but = (handed-waits a, room_as a.left c.requires.holds_waiting.1);
+    }
 
 pub returns : goal.returns
 returns c = taken-falls (handed (goal.at.returns c).After-hand_over-k) c.args.words.now (few (goal.at.returns c).Else-bar-k) c.fall.ensures

@@ -18,7 +18,8 @@ pub rank-requires : goal.rank-requires
 rank-requires c = let a = visiting (goal.at.rank-requires c).Start in record { sized = held-sized a.held; v_lt_most = held_small a.held _ a.inside }
 
 pub returns-then-i-rank : goal.returns-then-i-rank
-returns-then-i-rank c = turn-passed (visiting (goal.at.returns-then-i-rank c).Start) c.args.words.now c.args.tally c.requires.holds_waiting.0 (turn-high (visiting (goal.at.returns-then-i-rank c).Start) (omega (arith, c.rank.ensures)))
+returns-then-i-rank c = turn-passed (visiting (goal.at.returns-then-i-rank c).Start) c.args.words.now c.args.tally c.requires.holds_waiting.0
+    (turn-high (visiting (goal.at.returns-then-i-rank c).Start) (omega (arith, c.rank.ensures)))
 
 pub phi-requires : goal.phi-requires
 phi-requires c = let a = visiting (goal.at.phi-requires c).Start in
@@ -35,8 +36,10 @@ is-due c =
     (omega (arith, c.requires.w_bound.2, c.phi.ensures, c.if-phi-bar.false))
 
 pub promote-requires : goal.promote-requires
-promote-requires c = let d = due-low (rules_at c.args.rack.now) (proper-pos c.requires.held.0.proper) c.args.i c.args.w (read low c.args.rack.now) (is-due (goal.at.promote-requires c).Else-phi-bar) in
+promote-requires c = let d = due-low (rules_at c.args.rack.now) (proper-pos c.requires.held.0.proper) c.args.i c.args.w (read low c.args.rack.now)
+    (is-due (goal.at.promote-requires c).Else-phi-bar) in
     record { held = c.requires.held; u_bound = (c.requires.w_bound.0, d.0, c.requires.w_bound.1, d.1); holds_waiting = c.requires.holds_waiting }
 
 pub returns : goal.returns
-returns c = turn-promoted (visiting (goal.at.returns c).Start) c.args.words.now c.args.queue.now c.args.tally (is-due (goal.at.returns c).Else-phi-bar) c.promote.ensures
+returns c = turn-promoted (visiting (goal.at.returns c).Start) c.args.words.now c.args.queue.now c.args.tally
+    (is-due (goal.at.returns c).Else-phi-bar) c.promote.ensures

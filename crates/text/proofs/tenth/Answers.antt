@@ -23,7 +23,8 @@ returns-then-w-gt4294967295 c = λ n rest h. decimals.too_large _ _ (ten (goal.a
 
 pub returns-then-digit-lt10 : goal.returns-then-digit-lt10
 returns-then-digit-lt10 c = let a = c.args in
-    begun.eleven a.s.now a.at _ _ (ten (goal.at.returns-then-digit-lt10 c).Else-d-gt9) (omega (arith, c.requires.at_in_bounds)) c.digit.ensures (omega arith)
+    begun.eleven a.s.now a.at _ _ (ten (goal.at.returns-then-digit-lt10 c).Else-d-gt9) (omega (arith, c.requires.at_in_bounds)) c.digit.ensures
+    (omega arith)
 
 pub returns : goal.returns
 returns c = let a = c.args in

@@ -11,7 +11,8 @@ pub right_word-requires : goal.right_word-requires
 right_word-requires c = record { sized = c.requires; k_bound = omega (arith, c.loop-k-test.true); rosters_below = c.loop-k.invariant.1 }
 
 pub returns-then-not-right_word : goal.returns-then-not-right_word
-returns-then-not-right_word c = says-no (λ g. unsaid c.right_word.ensures c.if-not-right_word.true (rosters-less (omega (arith, c.loop-k-test.true)) g))
+returns-then-not-right_word c = says-no
+    (λ g. unsaid c.right_word.ensures c.if-not-right_word.true (rosters-less (omega (arith, c.loop-k-test.true)) g))
 
 pub loop-k-preserved : goal.loop-k-preserved
 loop-k-preserved c = (

@@ -59,7 +59,8 @@ loop-x-preserved c = let l = c.loop-x in
     let r = c.args.r in
     let v = 64 * c.args.k + count_trailing_zeros 64 l.x in
     midway-next (roster_at low bs r) (RankedBelow low bs r) (skips bs r) (64 * c.args.k) l.x l.invariant (omega (arith, c.loop-x-test.true))
-    (RankedBelow low bs r) (each-add (roster_at low bs r) (λ w. rank_at bs w ≡ r) v (first (goal.at.loop-x-preserved c).In-loop-x).2 (sym (read (goal.at.loop-x-preserved c).After-rank) ∙ c.if-rank-r.false))
+    (RankedBelow low bs r) (each-add (roster_at low bs r) (λ w. rank_at bs w ≡ r) v (first (goal.at.loop-x-preserved c).In-loop-x).2
+    (sym (read (goal.at.loop-x-preserved c).After-rank) ∙ c.if-rank-r.false))
 
 pub returns : goal.returns
 returns c = let l = c.loop-x in

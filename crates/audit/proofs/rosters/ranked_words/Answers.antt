@@ -14,7 +14,8 @@ ranked_word-requires c = let r : c.loop-r.r ≤ low.levels = omega (arith, c.loo
     record { sized = c.requires.sized; r_le_levels = r; k_bound = c.requires.k_bound; ranked_below = c.requires.all_ranked_below _ r }
 
 pub returns-then-not-ranked_word : goal.returns-then-not-ranked_word
-returns-then-not-ranked_word c = says-no (λ g. unsaid c.ranked_word.ensures c.if-not-ranked_word.true (g c.loop-r.r (omega (arith, c.loop-r-test.true))))
+returns-then-not-ranked_word c = says-no
+    (λ g. unsaid c.ranked_word.ensures c.if-not-ranked_word.true (g c.loop-r.r (omega (arith, c.loop-r-test.true))))
 
 pub loop-r-preserved : goal.loop-r-preserved
 loop-r-preserved c = (

@@ -41,4 +41,7 @@ shape_of-tally c = c.loop-v.invariant.1.0
 
 pub returns : goal.returns
 returns c = let l = c.loop-v in
-    let e : l.v ≡ c.args.n = omega (arith, c.loop-v-test.false, l.invariant.0) in record { says = says-yes (λ w h. l.invariant.1.1.1 w (omega arith)); holds_2 = λ _. subst (λ (k : ℕ). Holds low l.tally (tallied low c.args.rack.now k)) e l.invariant.1.1.0 }
+    let e : l.v ≡ c.args.n = omega (arith, c.loop-v-test.false, l.invariant.0) in record {
+      says = says-yes (λ w h. l.invariant.1.1.1 w (omega arith));
+      holds_2 = λ _. subst (λ (k : ℕ). Holds low l.tally (tallied low c.args.rack.now k)) e l.invariant.1.1.0;
+    }

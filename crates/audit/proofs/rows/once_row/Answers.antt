@@ -10,7 +10,12 @@ pub overflow_mul-k : goal.overflow_mul-k
 overflow_mul-k c = record { fits = omega (arith, c.loop-k.invariant.0, c.requires.v_lt_most) }
 
 pub once_word-requires : goal.once_word-requires
-once_word-requires c = record { sized = c.requires.sized; v_lt_most = c.requires.v_lt_most; k_bound = omega (arith, c.loop-k-test.true, c.requires.v_lt_most); once_below = c.loop-k.invariant.1 }
+once_word-requires c = record {
+  sized = c.requires.sized;
+  v_lt_most = c.requires.v_lt_most;
+  k_bound = omega (arith, c.loop-k-test.true, c.requires.v_lt_most);
+  once_below = c.loop-k.invariant.1;
+}
 
 pub returns-then-not-once_word : goal.returns-then-not-once_word
 returns-then-not-once_word c = says-no (λ g. unsaid c.once_word.ensures c.if-not-once_word.true (λ w l o. g w (omega (arith, c.loop-k-test.true)) o))

@@ -57,8 +57,10 @@ loop-x-preserved c = let l = c.loop-x in
     let bs = c.args.rack.now in
     let v = c.args.v in
     let w = 64 * c.args.k + count_trailing_zeros 64 l.x in
-    midway-next (owns_at low bs v) (OnceBelow low bs v) (skips bs v) (64 * c.args.k) l.x l.invariant (omega (arith, c.loop-x-test.true)) (OnceBelow low bs v)
-    (each-add (owns_at low bs v) (λ x. T (owns_at low bs x v) → ⊥) w (first (goal.at.loop-x-preserved c).In-loop-x).2 (λ o. subst T (sym c.owns.ensures ∙ c.if-owns.false) o))
+    midway-next (owns_at low bs v) (OnceBelow low bs v) (skips bs v) (64 * c.args.k) l.x l.invariant (omega (arith, c.loop-x-test.true))
+    (OnceBelow low bs v)
+    (each-add (owns_at low bs v) (λ x. T (owns_at low bs x v) → ⊥) w (first (goal.at.loop-x-preserved c).In-loop-x).2
+    (λ o. subst T (sym c.owns.ensures ∙ c.if-owns.false) o))
 
 pub returns : goal.returns
 returns c = let l = c.loop-x in

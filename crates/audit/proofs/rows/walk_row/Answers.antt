@@ -16,13 +16,23 @@ pub overflow_mul-k : goal.overflow_mul-k
 overflow_mul-k c = record { fits = omega (arith, c.loop-k.invariant.0) }
 
 pub walk_word-requires : goal.walk_word-requires
-walk_word-requires c = record { sized = c.requires.sized; v_lt_most = c.requires.v_lt_most; r_value = c.requires.r_value; r_lt_levels = c.requires.r_lt_levels; k_bound = omega (arith, c.loop-k-test.true); walked = c.loop-k.invariant.1.1 }
+walk_word-requires c = record {
+  sized = c.requires.sized;
+  v_lt_most = c.requires.v_lt_most;
+  r_value = c.requires.r_value;
+  r_lt_levels = c.requires.r_lt_levels;
+  k_bound = omega (arith, c.loop-k-test.true);
+  walked = c.loop-k.invariant.1.1;
+}
 
 pub shape_of-tally-then-not-walk_word : goal.shape_of-tally-then-not-walk_word
 shape_of-tally-then-not-walk_word c = c.walk_word.auto.tally ∙ c.loop-k.invariant.1.0
 
 pub returns-then-not-walk_word : goal.returns-then-not-walk_word
-returns-then-not-walk_word c = record { says = says-no (λ g. unsaid c.walk_word.ensures.says c.if-not-walk_word.true (λ x h o. g x (omega (arith, c.loop-k-test.true)) o)); holds_2 = λ z. absurd z }
+returns-then-not-walk_word c = record {
+  says = says-no (λ g. unsaid c.walk_word.ensures.says c.if-not-walk_word.true (λ x h o. g x (omega (arith, c.loop-k-test.true)) o));
+  holds_2 = λ z. absurd z;
+}
 
 pub loop-k-smaller : goal.loop-k-smaller
 loop-k-smaller c = omega (arith, c.loop-k-test.true)
@@ -34,7 +44,8 @@ loop-k-preserved c = let l = c.loop-k in
       p,
       (
         c.walk_word.auto.tally ∙ l.invariant.1.0,
-        subst (λ (q : ℕ). Walked low c.args.rack.now c.walk_word.new.tally c.args.v q) e (c.walk_word.ensures.walked_2 (true-T {b = c.walk_word.result} c.if-not-walk_word.false)),
+        subst (λ (q : ℕ). Walked low c.args.rack.now c.walk_word.new.tally c.args.v q) e
+            (c.walk_word.ensures.walked_2 (true-T {b = c.walk_word.result} c.if-not-walk_word.false)),
       ),
     )
 

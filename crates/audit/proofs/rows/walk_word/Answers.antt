@@ -16,8 +16,11 @@ use Rattle.audit.proofs.rows.walk_word.Goals.{In-loop-x}
 use Rattle.audit.proofs.rows.walk_word.Goals as goal
 
 pub loop-x-init : goal.loop-x-init
-loop-x-init c = let bs = c.args.rack.now in
-    (refl, midway_start (owns_at low bs c.args.v) (Walked low bs c.args.tally.now c.args.v) (64 * c.args.k) c.word-x.result c.word-x.ensures c.requires.walked)
+loop-x-init c = let bs = c.args.rack.now in (
+  refl,
+  midway_start (owns_at low bs c.args.v) (Walked low bs c.args.tally.now c.args.v)
+      (64 * c.args.k) c.word-x.result c.word-x.ensures c.requires.walked,
+)
 
 -- the edge that is next, as far as which the row is walked
 first : (c : In-loop-x) →
@@ -37,7 +40,12 @@ pub overflow_add-w : goal.overflow_add-w
 overflow_add-w c = record { fits = omega (arith, (first c).0) }
 
 pub right-requires : goal.right-requires
-right-requires c = record { sized = c.requires.sized; v_lt_most = c.requires.v_lt_most; w_lt_most = omega (arith, (first c).0); r_value = c.requires.r_value }
+right-requires c = record {
+  sized = c.requires.sized;
+  v_lt_most = c.requires.v_lt_most;
+  w_lt_most = omega (arith, (first c).0);
+  r_value = c.requires.r_value;
+}
 
 pub shape_of-tally-then-not-right : goal.shape_of-tally-then-not-right
 shape_of-tally-then-not-right c = c.loop-x.invariant.0
@@ -85,5 +93,6 @@ pub returns : goal.returns
 returns c = let l = c.loop-x in
     let bs = c.args.rack.now in
     let v = c.args.v in
-    let all = midway_end (owns_at low bs v) (Walked low bs l.tally v) (walked-skips low bs l.tally v) (64 * c.args.k) l.x l.invariant.1 c.loop-x-test.false in
+    let all = midway_end (owns_at low bs v) (Walked low bs l.tally v) (walked-skips low bs l.tally v)
+    (64 * c.args.k) l.x l.invariant.1 c.loop-x-test.false in
     record { says = says-yes all.right; walked_2 = λ _. all }

@@ -21,7 +21,10 @@ promote_and_settle-requires c =
     record { begun = all.0; liftable = all.1 }
 
 pub drop_edge-requires : goal.drop_edge-requires
-drop_edge-requires c = let p = can-part (goal.at.drop_edge-requires c).In-Part in record { held = sounded-held c.args.rack.now p.0; a_bound = p.1.ends }
+drop_edge-requires c = let p = can-part (goal.at.drop_edge-requires c).In-Part in record {
+  held = sounded-held c.args.rack.now p.0;
+  a_bound = p.1.ends;
+}
 
 -- the edge is taken out
 without : (c : After-drop_edge) →
@@ -31,7 +34,10 @@ without c = let p = can-part (goal.at.After-drop_edge c).In-Part in record { fro
 pub part_and_settle-requires : goal.part_and_settle-requires
 part_and_settle-requires c = let x = without (goal.at.part_and_settle-requires c).After-drop_edge in
     let l = dropped-inside x in
-    record { begun = dropped-begun x; a_bound = (l.0, l.1, x.ends.2, dropped-mates x (can-part (goal.at.part_and_settle-requires c).In-Part).1.mates) }
+    record {
+      begun = dropped-begun x;
+      a_bound = (l.0, l.1, x.ends.2, dropped-mates x (can-part (goal.at.part_and_settle-requires c).In-Part).1.mates);
+    }
 
 -- what is done is the run of the work
 pub returns-in-Rise : goal.returns-in-Rise
@@ -40,4 +46,5 @@ returns-in-Rise c = let a = c.args in
 
 pub returns-in-Part : goal.returns-in-Part
 returns-in-Part c = let a = c.args in
-    work-as (rules_at a.rack.now) a.words.now (read low a.rack.now) c.in-Part.is (dropped-pair (without (goal.at.returns-in-Part c).After-drop_edge) a.words.now c.part_and_settle.ensures)
+    work-as (rules_at a.rack.now) a.words.now (read low a.rack.now) c.in-Part.is
+    (dropped-pair (without (goal.at.returns-in-Part c).After-drop_edge) a.words.now c.part_and_settle.ensures)

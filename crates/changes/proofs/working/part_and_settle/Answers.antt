@@ -27,7 +27,8 @@ next : (c : After-waits) →
 next c =
     let t = c.waits.ensures in
     let z = c.new.ensures in
-    parted-next c.requires.begun c.requires.a_bound c.join-first.new.queue (c.join-both.auto.queue ∙ c.join-first.auto.queue ∙ c.places-queue.ensures) c.join-first.ensures
+    parted-next c.requires.begun c.requires.a_bound c.join-first.new.queue
+    (c.join-both.auto.queue ∙ c.join-first.auto.queue ∙ c.places-queue.ensures) c.join-first.ensures
     c.join-both.ensures (t.0 ∙ z.0, t.1 ∙ z.1, t.2) c.args.words.now c.part.ensures
 
 pub settle-requires : goal.settle-requires

@@ -10,7 +10,11 @@ use Rattle.changes.proofs.working.promote_and_settle.Goals as goal
 
 pub promote-t-requires : goal.promote-t-requires
 promote-t-requires c = let b = c.requires.begun in
-    let m = c.requires.liftable in record { held = (b.held, b.ordered); u_bound = (m.inside, m.low, m.level, m.some); holds_waiting = (none-waiting c.places-queue.ensures c.new.ensures b, omega (arith, c.new.ensures.0)) }
+    let m = c.requires.liftable in record {
+      held = (b.held, b.ordered);
+      u_bound = (m.inside, m.low, m.level, m.some);
+      holds_waiting = (none-waiting c.places-queue.ensures c.new.ensures b, omega (arith, c.new.ensures.0));
+    }
 
 -- where the promotion leaves the run
 next : (c : After-promote-t) →
@@ -22,7 +26,10 @@ next c =
     c.promote-t.ensures
 
 pub settle-requires : goal.settle-requires
-settle-requires c = let n = next (goal.at.settle-requires c).After-promote-t in record { held = (n.held, n.ordered); holds_waiting = (n.holds, n.room) }
+settle-requires c = let n = next (goal.at.settle-requires c).After-promote-t in record {
+  held = (n.held, n.ordered);
+  holds_waiting = (n.holds, n.room);
+}
 
 pub returns : goal.returns
 returns c = settled_on _ (next (goal.at.returns c).After-promote-t) c.settle.ensures

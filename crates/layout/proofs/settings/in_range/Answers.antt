@@ -24,4 +24,5 @@ pub returns-then-growth-gt-MOST_GROWTH : goal.returns-then-growth-gt-MOST_GROWTH
 returns-then-growth-gt-MOST_GROWTH c = let a = c.args in sym (outside a.growth a.top (λ r. omega (arith, c.if-growth-gt-MOST_GROWTH.true, r.most)))
 
 pub returns : goal.returns
-returns c = let a = c.args in inside a.growth a.top (omega (arith, c.if-growth-lt-LEAST_GROWTH.false)) (omega (arith, c.if-growth-gt-MOST_GROWTH.false))
+returns c = let a = c.args in inside a.growth a.top (omega (arith, c.if-growth-lt-LEAST_GROWTH.false))
+    (omega (arith, c.if-growth-gt-MOST_GROWTH.false))

@@ -23,4 +23,5 @@ loop-k-preserved c = let at = c.loop-k in
 pub returns : goal.returns
 returns c = let at = c.loop-k in
     let all = at.invariant.0 in
-    says-by (λ e w l a. all.fact e w a (omega (arith, c.loop-k-test.false))) (λ h. all.test (λ w a l. h w (omega (arith, at.invariant.2)) a)) (eqb-says at.all 0)
+    says-by (λ e w l a. all.fact e w a (omega (arith, c.loop-k-test.false))) (λ h. all.test (λ w a l. h w (omega (arith, at.invariant.2)) a))
+    (eqb-says at.all 0)

@@ -156,7 +156,8 @@ loop-x-preserved c =
     let t = (goal.at.loop-x-preserved c).In-loop-x in
     let s = (goal.at.loop-x-preserved c).Start in
     search_no (each s) c.loop-x.invariant (some t)
-    (λ y. subst T (sym (asked (goal.at.loop-x-preserved c).After-owns) ∙ c.if-owns.false) (owner-is (state s) s.args.q s.args.u (64 * s.args.k + at t) y).0)
+    (λ y. subst T (sym (asked (goal.at.loop-x-preserved c).After-owns) ∙ c.if-owns.false)
+    (owner-is (state s) s.args.q s.args.u (64 * s.args.k + at t) y).0)
 
 pub returns : goal.returns
 returns c = search-over (each (goal.at.returns c).Start) c.loop-x.invariant (omega (arith, c.loop-x-test.false))

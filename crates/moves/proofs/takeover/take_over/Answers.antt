@@ -49,7 +49,11 @@ rank-low : (c : In-loop-missing) → c.loop-missing.q ≤ c.args.i
 rank-low c = over-rank (riser (goal.at.In-loop-missing c).Start) c.loop-missing.invariant (omega (arith, c.loop-missing-test.true))
 
 pub phi-requires : goal.phi-requires
-phi-requires c = record { sized = held-sized c.requires.held.0; v_lt_most = u-small (goal.at.phi-requires c).Start; j_lt_levels = i-small (goal.at.phi-requires c).Start }
+phi-requires c = record {
+  sized = held-sized c.requires.held.0;
+  v_lt_most = u-small (goal.at.phi-requires c).Start;
+  j_lt_levels = i-small (goal.at.phi-requires c).Start;
+}
 
 pub degree-requires : goal.degree-requires
 degree-requires c = record { sized = held-sized c.requires.held.0; v_lt_most = u-small (goal.at.degree-requires c).Start }
@@ -63,13 +67,28 @@ rank-q-requires c = record { sized = held-sized c.requires.held.0; v_lt_most = u
 pub loop-missing-init : goal.loop-missing-init
 loop-missing-init c = let a = c.args in
     let m : ℕ = c.phi.result - c.degree.result in
-    let r : c.rank-q.result ≡ (state (goal.at.loop-missing-init c).Start).rank a.u = c.rank-q.ensures ∙ held-rank c.requires.held.0 a.u (u-small (goal.at.loop-missing-init c).Start) in
+    let r : c.rank-q.result ≡ (state (goal.at.loop-missing-init c).Start).rank a.u = c.rank-q.ensures ∙ held-rank c.requires.held.0 a.u
+    (u-small (goal.at.loop-missing-init c).Start) in
     subst (λ (q : ℕ). TakeOver (state (goal.at.loop-missing-init c).Start) a.i a.u a.rack.now m q) (sym r)
-    (over-start (riser (goal.at.loop-missing-init c).Start) c.requires.held.1 c.requires.held.0.written (omega (arith, counted (goal.at.loop-missing-init c).After-degree)))
+    (over-start (riser (goal.at.loop-missing-init c).Start) c.requires.held.1 c.requires.held.0.written
+    (omega (arith, counted (goal.at.loop-missing-init c).After-degree)))
 
 pub take_rank-missing-requires : goal.take_rank-missing-requires
 unfolding took_from reown
-take_rank-missing-requires c = let e : (read low c.loop-missing.rack).n ≡ (state (goal.at.take_rank-missing-requires c).Start).n = ap (λ (c : State). c.n) (over-read (riser (goal.at.take_rank-missing-requires c).Start) c.loop-missing.invariant) in record { held = held (goal.at.take_rank-missing-requires c).At-loop-missing; u_bound = (omega (arith, c.requires.u_bound.0, e), omega (arith, rank-low (goal.at.take_rank-missing-requires c).In-loop-missing, i-small (goal.at.take_rank-missing-requires c).Start)); missing_nonzero = (omega (arith, c.loop-missing-test.true), over-few (riser (goal.at.take_rank-missing-requires c).Start) c.loop-missing.invariant (rank-low (goal.at.take_rank-missing-requires c).In-loop-missing)) }
+take_rank-missing-requires c = let e : (read low c.loop-missing.rack).n ≡ (state (goal.at.take_rank-missing-requires c).Start).n = ap
+    (λ (c : State). c.n) (over-read (riser (goal.at.take_rank-missing-requires c).Start) c.loop-missing.invariant) in record {
+      held = held (goal.at.take_rank-missing-requires c).At-loop-missing;
+      u_bound = (
+        omega (arith, c.requires.u_bound.0, e),
+        omega
+            (arith, rank-low (goal.at.take_rank-missing-requires c).In-loop-missing, i-small (goal.at.take_rank-missing-requires c).Start),
+      );
+      missing_nonzero = (
+        omega (arith, c.loop-missing-test.true),
+        over-few (riser (goal.at.take_rank-missing-requires c).Start) c.loop-missing.invariant
+            (rank-low (goal.at.take_rank-missing-requires c).In-loop-missing),
+      );
+    }
 
 pub overflow_add-q : goal.overflow_add-q
 overflow_add-q c = omega (arith, rank-low (goal.at.overflow_add-q c).In-loop-missing, i-small (goal.at.overflow_add-q c).Start)
@@ -78,9 +97,11 @@ pub loop-missing-smaller : goal.loop-missing-smaller
 loop-missing-smaller c = omega (arith, rank-low (goal.at.loop-missing-smaller c).In-loop-missing)
 
 pub loop-missing-preserved : goal.loop-missing-preserved
-loop-missing-preserved c = let next : ℕ → Type 0 = λ q. TakeOver (state (goal.at.loop-missing-preserved c).Start) c.args.i c.args.u c.take_rank-missing.new.rack c.take_rank-missing.result q in
+loop-missing-preserved c = let next : ℕ → Type 0 = λ q. TakeOver
+    (state (goal.at.loop-missing-preserved c).Start) c.args.i c.args.u c.take_rank-missing.new.rack c.take_rank-missing.result q in
     subst next {x = c.loop-missing.q + 1} (omega arith)
-    (over-next (riser (goal.at.loop-missing-preserved c).Start) c.loop-missing.invariant (rank-low (goal.at.loop-missing-preserved c).In-loop-missing) c.take_rank-missing.ensures.rack_after c.take_rank-missing.ensures.rack_value)
+    (over-next (riser (goal.at.loop-missing-preserved c).Start) c.loop-missing.invariant
+    (rank-low (goal.at.loop-missing-preserved c).In-loop-missing) c.take_rank-missing.ensures.rack_after c.take_rank-missing.ensures.rack_value)
 
 pub shape_of-rack : goal.shape_of-rack
 shape_of-rack c = held-sized (held (goal.at.shape_of-rack c).At-loop-missing) ∙ sym (held-sized c.requires.held.0)

@@ -37,20 +37,32 @@ held c = rank-held c.args.q (takes (goal.at.At-loop-k c).Start) c.loop-k.invaria
 pub take_word-left-requires : goal.take_word-left-requires
 unfolding took_from reown
 take_word-left-requires c = let a = c.args in
-    let e : (read low c.loop-k.rack).n ≡ (state (goal.at.take_word-left-requires c).Start).n = ap (λ (t : State). t.n) (rank-read a.q (takes (goal.at.take_word-left-requires c).Start) c.loop-k.invariant.1) in record { held = held (goal.at.take_word-left-requires c).At-loop-k; u_bound = (omega (arith, c.requires.u_bound.0, e), c.requires.u_bound.1, omega (arith, c.loop-k-test.true)); missing_nonzero = (c.loop-k.invariant.0, rank-few a.q (takes (goal.at.take_word-left-requires c).Start) c.loop-k.invariant.1 c.requires.missing_nonzero.1) }
+    let e : (read low c.loop-k.rack).n ≡ (state (goal.at.take_word-left-requires c).Start).n = ap (λ (t : State). t.n)
+    (rank-read a.q (takes (goal.at.take_word-left-requires c).Start) c.loop-k.invariant.1) in record {
+      held = held (goal.at.take_word-left-requires c).At-loop-k;
+      u_bound = (omega (arith, c.requires.u_bound.0, e), c.requires.u_bound.1, omega (arith, c.loop-k-test.true));
+      missing_nonzero = (
+        c.loop-k.invariant.0,
+        rank-few a.q
+            (takes (goal.at.take_word-left-requires c).Start) c.loop-k.invariant.1 c.requires.missing_nonzero.1,
+      );
+    }
 
 taken : (c : After-slice_known-in-loop-k-1) →
     TakeRank (state (goal.at.After-slice_known-in-loop-k-1 c).Start) c.args.q c.args.u c.args.missing c.take_word-left.new.rack c.take_word-left.result (c.loop-k.k + 1)
 unfolding read
 taken c =
-    rank-next c.args.q (takes (goal.at.After-slice_known-in-loop-k-1 c).Start) c.loop-k.invariant.1 (omega (arith, c.loop-k-test.true)) c.take_word-left.ensures.rack_after
+    rank-next c.args.q (takes (goal.at.After-slice_known-in-loop-k-1 c).Start) c.loop-k.invariant.1
+    (omega (arith, c.loop-k-test.true)) c.take_word-left.ensures.rack_after
     c.take_word-left.ensures.j_value
 
 pub shape_of-rack-then-left-eq0 : goal.shape_of-rack-then-left-eq0
-shape_of-rack-then-left-eq0 c = c.take_word-left.auto.rack ∙ held-sized (held (goal.at.shape_of-rack-then-left-eq0 c).At-loop-k) ∙ sym (held-sized c.requires.held)
+shape_of-rack-then-left-eq0 c = c.take_word-left.auto.rack ∙ held-sized (held (goal.at.shape_of-rack-then-left-eq0 c).At-loop-k) ∙ sym
+    (held-sized c.requires.held)
 
 pub returns-then-left-eq0 : goal.returns-then-left-eq0
-returns-then-left-eq0 c = let e = rank-full c.args.q (takes (goal.at.returns-then-left-eq0 c).Start) (taken (goal.at.returns-then-left-eq0 c).After-slice_known-in-loop-k-1) c.requires.missing_nonzero.1 (omega (arith, c.if-left-eq0.true)) in
+returns-then-left-eq0 c = let e = rank-full c.args.q (takes (goal.at.returns-then-left-eq0 c).Start)
+    (taken (goal.at.returns-then-left-eq0 c).After-slice_known-in-loop-k-1) c.requires.missing_nonzero.1 (omega (arith, c.if-left-eq0.true)) in
     record { rack_after = e.0; rack_value = omega (arith, e.1, c.if-left-eq0.true) }
 
 pub overflow_add-k : goal.overflow_add-k

@@ -45,17 +45,26 @@ returns-then-x-eq0 c = let n = word_none (takes (goal.at.returns-then-x-eq0 c).S
     record { rack_after = c.requires.held.written ∙ ap write n.0; j_value = omega (arith, n.1) }
 
 pub word-row-requires : goal.word-row-requires
-word-row-requires c = record { sized = held-sized c.requires.held; v_lt_most = u-small (goal.at.word-row-requires c).Start; k_bound = c.requires.u_bound.2 }
+word-row-requires c = record {
+  sized = held-sized c.requires.held;
+  v_lt_most = u-small (goal.at.word-row-requires c).Start;
+  k_bound = c.requires.u_bound.2;
+}
 
 pub set_word-requires : goal.set_word-requires
-set_word-requires c = record { sized = held-sized c.requires.held; v_lt_most = u-small (goal.at.set_word-requires c).Start; k_bound = c.requires.u_bound.2 }
+set_word-requires c = record {
+  sized = held-sized c.requires.held;
+  v_lt_most = u-small (goal.at.set_word-requires c).Start;
+  k_bound = c.requires.u_bound.2;
+}
 
 pub loop-x-init : goal.loop-x-init
 loop-x-init c g t s _ h = h
 
 -- where the loop begins
 begun : (c : After-slice_known-2-1) →
-    TakeWord (state (goal.at.After-slice_known-2-1 c).Start) c.args.u c.args.k (owner (goal.at.After-slice_known-2-1 c).Start) c.args.missing c.set_word.new.rack
+    TakeWord (state (goal.at.After-slice_known-2-1 c).Start) c.args.u c.args.k
+    (owner (goal.at.After-slice_known-2-1 c).Start) c.args.missing c.set_word.new.rack
     c.owners-x.result c.args.missing
 unfolding read
 begun c =
@@ -64,14 +73,17 @@ begun c =
       none = c.word-row.ensures.none;
       same = λ j h l.
           c.word-row.ensures.same j h l
-          ∙ held-owns c.requires.held c.args.u (64 * c.args.k + j) (u-small (goal.at.After-slice_known-2-1 c).Start) (omega (arith, c.requires.u_bound.2));
+          ∙ held-owns c.requires.held c.args.u (64 * c.args.k + j) (u-small (goal.at.After-slice_known-2-1 c).Start)
+          (omega (arith, c.requires.u_bound.2));
     } in
     word-start (takes (goal.at.After-slice_known-2-1 c).Start) c.requires.held.written c.requires.u_bound.2 row c.owners-x.ensures c.set_word.ensures
 
 -- so far
 taken : (c : At-loop-x) →
-    TakeWord (state (goal.at.At-loop-x c).Start) c.args.u c.args.k (owner (goal.at.At-loop-x c).Start) c.args.missing c.loop-x.rack c.loop-x.x c.loop-x.left
-taken c = let bs = c.args.rack.now in c.loop-x.invariant (growth_at bs) (top_at bs) (state (goal.at.At-loop-x c).Start) (takes (goal.at.At-loop-x c).Start) (begun (goal.at.At-loop-x c).After-slice_known-2-1)
+    TakeWord (state (goal.at.At-loop-x c).Start) c.args.u c.args.k
+    (owner (goal.at.At-loop-x c).Start) c.args.missing c.loop-x.rack c.loop-x.x c.loop-x.left
+taken c = let bs = c.args.rack.now in c.loop-x.invariant (growth_at bs) (top_at bs) (state (goal.at.At-loop-x c).Start)
+    (takes (goal.at.At-loop-x c).Start) (begun (goal.at.At-loop-x c).After-slice_known-2-1)
 
 sized : (c : At-loop-x) → Sized low c.loop-x.rack
 unfolding read
@@ -88,7 +100,11 @@ pub place-w-requires : goal.place-w-requires
 place-w-requires c = record { rest_nonzero = some c; word_bound = c.requires.u_bound.2 }
 
 pub disown-requires : goal.disown-requires
-disown-requires c = record { sized = sized (goal.at.disown-requires c).At-loop-x; v_lt_most = omega (arith, c.place-w.ensures, inside (goal.at.disown-requires c).In-loop-x); w_lt_most = u-small (goal.at.disown-requires c).Start }
+disown-requires c = record {
+  sized = sized (goal.at.disown-requires c).At-loop-x;
+  v_lt_most = omega (arith, c.place-w.ensures, inside (goal.at.disown-requires c).In-loop-x);
+  w_lt_most = u-small (goal.at.disown-requires c).Start;
+}
 
 one_left : (c : In-loop-x) → 0 < c.loop-x.left
 one_left c = word-left (takes (goal.at.In-loop-x c).Start) (taken (goal.at.In-loop-x c).At-loop-x) (some c) c.requires.missing_nonzero.1

@@ -9,7 +9,8 @@ use Rattle.moves.proofs.TakeWord.{TakeWord}
 use Rattle.moves.proofs.takeover.take_word.Given as goal
 
 abbrev pub invariant-loop-x : goal.invariant-loop-x
-invariant-loop-x l = (g t : ℕ) (s : State) → Takes (low_with g t) s l.u (owner_at s l.q l.u) → TakeWord s l.u l.k (owner_at s l.q l.u) l.missing l.initial.rack l.initial.x l.initial.left
+invariant-loop-x l = (g t : ℕ) (s : State) → Takes (low_with g t) s l.u (owner_at s l.q l.u) → TakeWord s l.u l.k
+    (owner_at s l.q l.u) l.missing l.initial.rack l.initial.x l.initial.left
     → TakeWord s l.u l.k (owner_at s l.q l.u) l.missing l.rack l.x l.left
 
 abbrev pub decreases-loop-x : goal.decreases-loop-x
