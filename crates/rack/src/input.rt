@@ -1,41 +1,46 @@
-// Standard input, read so that a read that fails is not taken for the end of the input. `io::read_full` answers both alike.
+// Standard input, read so that a read that fails is not taken for the end of the input.
 ghost use Rattle.std.specs.Prelude.{◌≡◌, length};
-ghost use Rattle.rack.specs.Input.{reading_of, Within};
+ghost use Rattle.rack.specs.Input.{reading_of, Within, Came, Collected};
 
-// What came of reading: so many bytes, or a failure, of which errno still has the reason.
-#[derive(Drop)]
+use std::io;
+use std::io::Read;
+
+// What came of reading: so many bytes, or a failure, with its reason.
+#[derive(Clone, Copy)]
 pub enum Reading {
     Read(usize),
-    Failed,
+    Failed(io::Error),
 }
 
-// What the answer of a read into the part says. A negative one is a failure: as 0 bytes it would be the end of the input.
-fn told_by(got: isize, part: &[u8]) -> Reading
+// What the answer of a read into the part says. A failure stays one: as 0 bytes it would be the end of the input.
+fn told_by(got: io::Result<usize>, part: &[u8]) -> Reading
     ensures { result ≡ reading_of got (length part.now) }
 {
-    if got < 0 {
-        Reading::Failed
-    } else {
-        Reading::Read(io::count(got, part))
+    match got {
+        Ok(n) => Reading::Read(n.min(part.len())),
+        Err(e) => Reading::Failed(e),
     }
 }
 
 // One read: 0 bytes at the end of the input.
-fn read_some(part: &mut [u8]) -> Reading
-    ensures { Within result (length part.old) }
+fn read_some<R: Read>(input: &mut R, part: &mut [u8]) -> Reading
+    ensures within { Within result (length part.old) }
+    ensures came { Came result (R.remaining input.old) (R.remaining input.new) part.new }
 {
-    let got = libc::read(libc::STDIN_FILENO, part);
+    let got = input.read(part);
     told_by(got, part)
 }
 
 // Reads until the input ends or the text is full. A part that was read before a failure is answered as a failure.
-pub fn read_text(text: &mut [u8]) -> Reading
-    ensures { Within result (length text.old) }
+pub fn read_text<R: Read>(input: &mut R, text: &mut [u8]) -> Reading
+    ensures within { Within result (length text.old) }
+    ensures collected { Collected result (R.remaining input.old) (R.remaining input.new) text.new }
 {
     let mut done = 0;
     while done < text.len() {
-        let Reading::Read(got) = read_some(&mut text[done..]) else {
-            return Reading::Failed;
+        let told = read_some(input, &mut text[done..]);
+        let Reading::Read(got) = told else {
+            return told;
         };
         if got == 0 {
             return Reading::Read(done);

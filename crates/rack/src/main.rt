@@ -1,20 +1,36 @@
 // "The program reads up to 16,385 bytes and prints the record, or `(bad K L)`": the library makes what is printed. A text that can't be read
-// to its end is not run, and that, or a record that can't be written, is said on standard error.
+// to its end is not run, and that, or a record that can't be written, is said on standard error, and ends the program with status 1.
+#![tactic(auto)]
+
+ghost use Rattle.std.specs.Prelude.{◌≡◌};
+ghost use Rattle.std.specs.Process.{exit_status};
+
 mod input;
+mod output;
 
 use input::Reading;
-use libc::STDOUT_FILENO;
+use std::io;
+use std::process::ExitCode;
 
-fn main() {
+fn main(rt: HostRuntime) -> ExitCode {
     let mut text = [0u8; run::TEXT_LIMIT + 1];
-    let Reading::Read(n) = input::read_text(&mut text) else {
-        os::fail(b"rack: reading the trace");
-        return;
+    let n = match input::read_text(&mut rt.stdin(), &mut text) {
+        Reading::Read(n) => n,
+        Reading::Failed(e) => return failed(&rt, "reading the trace", e),
     };
     let mut rack = [0u8; layout::shape::RACK_BYTES];
-    let mut space = io::large_buffer();
+    let mut space = [0u8; run::RECORD_SPACE];
     let k = run::show(&mut rack, &text[..n], &mut space);
-    if !io::write_all(STDOUT_FILENO, &space[..k]) {
-        os::fail(b"rack: writing the record");
+    match output::write_text(&mut rt.stdout(), &space[..k]) {
+        Ok(()) => ExitCode::SUCCESS,
+        Err(e) => failed(&rt, "writing the record", e),
     }
+}
+
+// Says on standard error what failed, and why.
+fn failed(rt: &impl Eprint, what: &str, why: io::Error) -> ExitCode
+    ensures { exit_status result ≡ 1 }
+{
+    let _ = eprintln!(rt; "rack: {what}: {why}");
+    ExitCode::FAILURE
 }
