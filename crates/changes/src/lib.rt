@@ -16,7 +16,7 @@ use settling::tally::Tally;
 use working::Work;
 
 // "A change answers 0, its draws, its falls (moves down by one level) and the pairs then held."
-#[derive(Drop)]
+#[derive(Clone, Copy)]
 pub struct Answer {
     pub number: u32,
     pub draws: u64,

@@ -12,7 +12,7 @@ use settling::tally::Tally;
 
 // What is left to do of a change that draws: "The riser's pair, if any, is parted; it rises, it draws, the settling follows.", or the edge of a pair
 // is dropped: "part them and settle".
-#[derive(Drop)]
+#[derive(Clone, Copy)]
 pub enum Work {
     Rise { i: usize, u: usize },
     Part { a: usize, b: usize },

@@ -13,7 +13,7 @@ const SURE: u32 = 4294967040;
 const ALL_WORDS: usize = 4294967296;
 
 // The word that decides a draw: its number among those lent, and the place that it chooses.
-#[derive(Drop)]
+#[derive(Clone, Copy)]
 pub struct Decision {
     pub number: usize,
     pub place: usize,

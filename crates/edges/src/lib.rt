@@ -11,7 +11,7 @@ ghost use Rattle.moves.specs.Proper.{Held};
 ghost use Rattle.edges.specs.Steps.{Countable, edge_counted, reached_by};
 
 // The level that a count reaches, with the vertex that rises to it, or that none is reached.
-#[derive(Drop)]
+#[derive(Clone, Copy)]
 pub enum Reached {
     At { i: usize, u: usize },
     Never,

@@ -13,21 +13,21 @@ ghost use Rattle.engine.specs.Answers.{ChangeIs, AuditIs, LevelIs, QueryIs};
 use changes::Answer;
 
 // "the audit 0 and yes or no"
-#[derive(Drop)]
+#[derive(Clone, Copy)]
 pub struct AuditAnswer {
     pub number: u32,
     pub yes: bool,
 }
 
 // "a query 0 and the level"
-#[derive(Drop)]
+#[derive(Clone, Copy)]
 pub struct LevelAnswer {
     pub number: u32,
     pub level: i32,
 }
 
 // "a query 0 and [..] the mate (65,535 if idle), or 1 for linked and 0 for not linked"; W-205: "a query returns the number of boards at a level"
-#[derive(Drop)]
+#[derive(Clone, Copy)]
 pub struct QueryAnswer {
     pub number: u32,
     pub value: u32,

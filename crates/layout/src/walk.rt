@@ -9,7 +9,7 @@ ghost use Rattle.layout.specs.Walks.{place_of, Stands, Further};
 use crate::shape::MOST;
 
 // Where a walk stands: at a word of the row, with so much of it left. At the end of the row nothing is left.
-#[derive(Drop)]
+#[derive(Clone, Copy)]
 pub struct Cursor {
     pub word: usize,
     pub rest: u64,

@@ -15,7 +15,7 @@ pub enum Settings {
 }
 
 // The settings that line 1 names, and the position after the line.
-#[derive(Drop)]
+#[derive(Clone, Copy)]
 pub enum LongRead {
     Named { growth: u32, top: u32, next: usize },
     NotNamed,
@@ -33,21 +33,21 @@ pub enum RackRead {
 }
 
 // The code that a change's line begins with, and the position after it.
-#[derive(Drop)]
+#[derive(Clone, Copy)]
 pub enum CodeRead {
     Code { code: u32, next: usize },
     NoCode,
 }
 
 // The two vertices, and the position after them.
-#[derive(Drop)]
+#[derive(Clone, Copy)]
 pub enum EndsRead {
     Ends { a: u32, b: u32, next: usize },
     NoEnds,
 }
 
 // The word after a space, and the position after it; or that no space stands there, or one with no number after it.
-#[derive(Drop)]
+#[derive(Clone, Copy)]
 pub enum WordRead {
     Word { w: u32, next: usize },
     NoSpace,
@@ -55,7 +55,7 @@ pub enum WordRead {
 }
 
 // How many words, and the position after them.
-#[derive(Drop)]
+#[derive(Clone, Copy)]
 pub enum WordsRead {
     Words { count: usize, next: usize },
     NoWords,

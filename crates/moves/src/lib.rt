@@ -42,7 +42,7 @@ pub fn pair(rack: &mut [u8], u: usize, y: usize)
 }
 
 // What a pass over the row of a waiting vertex answers: how many edges it handed on, and how many vertices are below.
-#[derive(Drop)]
+#[derive(Clone, Copy)]
 pub struct Split {
     pub handed: usize,
     pub below: usize,

@@ -28,7 +28,7 @@ pub const TEXT_LIMIT: usize = 16384;
 pub const RECORD_SPACE: usize = 65536;
 
 // "The answer is 0 and the record's length", or the number of a run that was turned back, with its line if that is 4.
-#[derive(Drop)]
+#[derive(Clone, Copy)]
 pub struct RunAnswer {
     pub number: u32,
     pub line: usize,

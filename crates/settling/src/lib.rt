@@ -17,7 +17,7 @@ pub mod tally;
 use tally::Tally;
 
 // The next vertex to be taken, with its level, or that none waits.
-#[derive(Drop)]
+#[derive(Clone, Copy)]
 pub enum Choice {
     At { i: usize, v: usize },
     Nothing,

@@ -3,7 +3,7 @@ ghost use Rattle.std.specs.Prelude.{◌≡◌, suc, ◌≤◌};
 ghost use Rattle.settling.specs.Settling.{fall_limit};
 
 // "A change answers 0, its draws, its falls": both figures, and how many vertices wait, handed on from move to move.
-#[derive(Drop)]
+#[derive(Clone, Copy)]
 pub struct Tally {
     pub draws: u64,
     pub falls: u32,

@@ -9,14 +9,14 @@ ghost use Rattle.text.specs.Literal.{Starts, FourBytes, FourAt, LiteralAt};
 ghost use Rattle.text.specs.Writing.{Put};
 
 // The number that stands there, and the position after it.
-#[derive(Drop)]
+#[derive(Clone, Copy)]
 pub enum Number {
     Value(u32, usize),
     NoNumber,
 }
 
 // The position after a fixed text that stands there.
-#[derive(Drop)]
+#[derive(Clone, Copy)]
 pub enum Literal {
     Next(usize),
     NoLiteral,
