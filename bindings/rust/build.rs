@@ -24,7 +24,7 @@ fn main() {
     let library = library.display();
     println!("cargo::error=the static library of the core isn't there: {library}");
     let make = format!(
-        "run `rt staticlib pairing` in {} (a few minutes the first time)",
+        "run `tools/build library` in {} (a few minutes the first time)",
         root.display()
     );
     let path = "the whole path of the directory that holds libpairing.a";
