@@ -17,7 +17,7 @@ sized-is c = sym c.sized.ensures ∙ c.if-not-sized.false
 lent : (c : Else-space-lt-RECORD_SPACE) → let a = c.args in Lent a.rack.now a.text.now a.space.now
 lent c = record {
   whole = sized-is (goal.at.Else-space-lt-RECORD_SPACE c).Else-not-sized;
-  short = omega (arith, c.if-text-gt-TEXT_LIMIT.false);
+  short = omega arith;
   wide = omega (arith, c.if-space-lt-RECORD_SPACE.false);
 }
 
@@ -33,7 +33,7 @@ returns-then-text-gt-TEXT_LIMIT c = let r = c.turned_back-then-text-gt-TEXT_LIMI
 
 pub returns-then-space-lt-RECORD_SPACE : goal.returns-then-space-lt-RECORD_SPACE
 returns-then-space-lt-RECORD_SPACE c = let r = c.turned_back-then-space-lt-RECORD_SPACE.ensures in
-    ran-back (space-short (sized-is (goal.at.returns-then-space-lt-RECORD_SPACE c).Else-not-sized) (omega (arith, c.if-text-gt-TEXT_LIMIT.false))
+    ran-back (space-short (sized-is (goal.at.returns-then-space-lt-RECORD_SPACE c).Else-not-sized) (omega arith)
     (omega (arith, c.if-space-lt-RECORD_SPACE.true)))
     (omega (arith, r.0)) (omega (arith, r.1)) (omega (arith, r.2))
 

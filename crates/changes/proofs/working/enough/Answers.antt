@@ -14,7 +14,7 @@ use Rattle.changes.proofs.working.enough.Goals as goal
 pub returns-then-sure : goal.returns-then-sure
 returns-then-sure c = let a = c.args in
     sure-enough (read low a.rack.now) a.i a.k a.words.now a.k true (held-few c.requires)
-    (inr (inr (omega (arith, c.if-i-eq0.true), omega arith)))
+    (inr (inr (omega arith, omega arith)))
     (subst (λ (x : Bool). Sure x a.words.now a.k) c.if-sure.true c.sure.ensures)
 
 pub size-half-requires : goal.size-half-requires
