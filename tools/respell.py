@@ -1,7 +1,7 @@
 #!/usr/bin/env python3
 """Brings the names of the repository's own definitions and lemmas to the spelling of today's Rattle: words in snake case.
 
-usage: python3 tools/respell.py            at the top, once, after /opt/rattle/port/port.py and before any edit by hand
+usage: python3 tools/respell.py            at the top, once, after the toolchain's port/port.py and before any edit by hand
 
 A name is turned where it is declared in specs/ or proofs/, or given by `as`, and has a capital inside a word that begins small: `mateAt` becomes
 `mate_at`, `digit-bitOf` becomes `digit-bit_of`. Types, modules, functions of src/ and strings keep their names. One module is renamed, since Rattle makes
