@@ -1,10 +1,9 @@
 -- The rosters as they are tested, word by word, and as a sound rack has them, each vertex in the roster of its rank and in no other: the two
 -- say the same. Assumes nothing.
-use mathlib.Core.Path.{◌≡◌, refl, sym, ap, ◌∙◌, subst}
+use mathlib.Core.Path.{◌≡◌, refl, sym, ◌∙◌, subst}
 use mathlib.Core.Logic.{inl, inr}
-use mathlib.Core.Bool.{Bool}
 use mathlib.Core.List.{List}
-use Prim.Native.Nat.{ℕ, zero, suc, ◌+◌, ◌-◌, ◌*◌, ◌≤◌, ◌<◌}
+use Prim.Native.Nat.{ℕ, zero, suc, ◌+◌, ◌*◌, ◌≤◌, ◌<◌}
 use native.Mathlib.Numerals.{add-one}
 use native.Mathlib.Omega.{arith}
 use lib.Dec.{T, eqb, ltb, eqb→eq, ltb→lt, lt→ltb}
@@ -14,8 +13,9 @@ use Rattle.model.specs.Bytes.{top_at, rank_at, roster_at}
 use Rattle.model.proofs.Tests.{eq?, le?, true-T, bool-ext, eqb_yes, or_cases, or_left, or_right}
 use Rattle.bitset.specs.Words.{Rest}
 use Rattle.bitset.proofs.Words.{rest_end}
-use Rattle.bitset.proofs.Sets.{rest-or, none_rest, same-places, places_same}
-use Rattle.audit.specs.Parts.{Settings, listed_in, AllRankedBelow, RostersBelow, Rosters}
+use Rattle.bitset.proofs.Sets.{rest-or, none_rest}
+use Rattle.audit.specs.Parts.{Settings, listed_in, AllRankedIn, RostersIn, Rosters}
+use Rattle.audit.proofs.Words.{in-words}
 
 -- ---- who is in a roster
 
@@ -47,38 +47,24 @@ module _ (S : Shape) (bs : List ℕ) (v : ℕ) where
     | inr a ↦ (m, omega arith, a)
   ]
 
--- ---- two rows, word by word
-
-module _ (p q : ℕ → Bool) (k x y : ℕ) (a : Rest (λ j. p (64 * k + j)) 0 x) (b : Rest (λ j. q (64 * k + j)) 0 y) where
-  -- a word more that is the same
-  pub agree-more : x ≡ y → ((v : ℕ) → v < 64 * k → p v ≡ q v) → (v : ℕ) → v < 64 * k + 64 → p v ≡ q v
-  agree-more e g v h = elim (le? (64 * k) v) [
-    | inl l ↦
-        let at : v ≡ 64 * k + (v - 64 * k) = omega arith in
-        ap p at ∙ same-places a b e (v - 64 * k) (omega arith) ∙ ap q (sym at)
-    | inr l ↦ g v l
-  ]
-
-  -- the word of two that agree
-  pub agree-word : ((v : ℕ) → v < 64 * k + 64 → p v ≡ q v) → x ≡ y
-  agree-word g = places_same a b (λ j l. g (64 * k + j) (omega arith))
-
--- ---- as far as a place
-
 -- a word in which none is listed
-pub ranked-past : (S : Shape) (bs : List ℕ) (k x : ℕ) → Rest (λ j. listed_in S bs (suc S.levels) (64 * k + j)) 0 x → x ≡ 0
-    → AllRankedBelow S bs (64 * k) → AllRankedBelow S bs (64 * k + 64)
-ranked-past S bs k x a e g r l v h t = elim (le? (64 * k) v) [
-  | inl past ↦
-      let at : v ≡ 64 * k + (v - 64 * k) = omega arith in
-      let listed = listed-yes S bs v (suc S.levels) r (omega arith) t in
-      absurd (rest_end a e (v - 64 * k) (omega arith) (omega arith) (subst (λ (w : ℕ). T (listed_in S bs (suc S.levels) w)) at listed))
-  | inr before ↦ g r l v before t
-]
+pub ranked-none : (S : Shape) (bs : List ℕ) (k : ℕ) {x : ℕ} → Rest (λ j. listed_in S bs (suc S.levels) (64 * k + j)) 0 x → x ≡ 0 → AllRankedIn S bs k
+ranked-none S bs k a e r l j h t = absurd (rest_end a e j (omega arith) h (listed-yes S bs (64 * k + j) (suc S.levels) r l t))
 
--- what is right is right in a part
-pub rosters-less : {S : Shape} {bs : List ℕ} {n p q : ℕ} → q ≤ p → RostersBelow S bs n p → RostersBelow S bs n q
-rosters-less h g = record { ranked = λ r l v k. g.ranked r l v (omega arith); together = λ v k. g.together v (omega arith) }
+-- ---- all words together
+
+module _ {S : Shape} {bs : List ℕ} {n : ℕ} (m : ℕ) (all : S.most ≡ 64 * m) where
+  pub words-right : ((k : ℕ) → k < m → RostersIn S bs n k) → Rosters S bs n
+  words-right g = record {
+    ranked = λ r l v h t. in-words (λ w. T (roster_at S bs r w) → rank_at bs w ≡ r) m (λ k i j b. (g k i).ranked r (omega arith) j b) v (omega (arith, all)) t;
+    together = λ v h. in-words (λ w. listed_in S bs (suc S.levels) w ≡ ltb w n) m (λ k i j b. (g k i).together j b) v (omega (arith, all));
+  }
+
+  pub right-words : Rosters S bs n → (k : ℕ) → k < m → RostersIn S bs n k
+  right-words g k i = record {
+    ranked = λ r l j b t. g.ranked r (omega arith) (64 * k + j) (omega (arith, all)) t;
+    together = λ j b. g.together (64 * k + j) (omega (arith, all));
+  }
 
 -- ---- from the tests to the facts, and back
 

@@ -1,4 +1,6 @@
 -- The laws that the proofs of `audit` rest on.
+pub mod Each
+pub mod Words
 pub mod Tally
 pub mod Walk
 pub mod Linked

@@ -30,10 +30,6 @@ bump t i k h = elim (eq? k i) [
   | inr e ↦ get_or-set_other t i k (get_or t i 0 + 1) 0 e ∙ omega (arith, ap bit (eqb_no k i e))
 ]
 
--- one more is at most one more
-pub bump-small : (t : List ℕ) (i k : ℕ) → i < length t → get_or (set t i (get_or t i 0 + 1)) k 0 ≤ get_or t k 0 + 1
-bump-small t i k h = omega (arith, bump t i k h, bit_le (eqb k i) true (λ x. tt))
-
 ends_same : (v w r x s : ℕ) → r ≡ s → ends v w r x s ≡ bit (eqb x w) + bit (eqb x v)
 unfolding ends
 ends_same v w r x s e = rw (eqb_yes r s e, ends) refl

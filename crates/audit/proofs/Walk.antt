@@ -1,5 +1,5 @@
--- The walk over a row of bits, a vertex's or a roster, word by word and bit by bit: what holds as far as a place goes on over a stretch with
--- no place of the row, and over one. Assumes nothing.
+-- The walk over a word of a row of bits, a vertex's or a roster, from bit to bit: what holds as far as a place goes on over a stretch with no place
+-- of the row, and over one. Assumes nothing.
 use mathlib.Core.Path.{◌≡◌, sym, ap, ◌∙◌, subst}
 use mathlib.Core.Logic.{inl, inr}
 use mathlib.Core.Bool.{Bool}
@@ -21,48 +21,39 @@ use Rattle.audit.proofs.Tally.{share_other, share-add, share-skip, share-none, t
 
 -- ---- within a word
 
--- P holds as far as some place of the word of o from base on, and x holds the places from there on
-pub record Midway (o : ℕ → Bool) (P : ℕ → Type 0) (base x : ℕ) : Type 0 where
+-- P holds as far as some place of the word, whose places are those of o, and x holds the places from there on
+pub record Midway (o : ℕ → Bool) (P : ℕ → Type 0) (x : ℕ) : Type 0 where
   pub at : ℕ
   pub few : at ≤ 64
-  pub rest : Rest (λ j. o (base + j)) at x
-  pub walked : P (base + at)
+  pub rest : Rest o at x
+  pub walked : P at
 
 -- what holds as far as p holds as far as q, where there is no place between
 abbrev pub Skips : (ℕ → Bool) → (ℕ → Type 0) → Type 0
 Skips o P = (p q : ℕ) → p ≤ q → ((j : ℕ) → p ≤ j → j < q → T (o j) → ⊥) → P p → P q
 
-pub midway_start : (o : ℕ → Bool) (P : ℕ → Type 0) (base x : ℕ) → Rest (λ j. o (base + j)) 0 x → P base → Midway o P base x
-midway_start o P base x r w =
-    let e : base ≡ base + 0 = omega arith in
-    record { at = 0; few = omega arith; rest = r; walked = subst P e w }
-
-module _ (o : ℕ → Bool) (P : ℕ → Type 0) (skips : Skips o P) (base x : ℕ) (m : Midway o P base x) where
-  -- a place between two of the word, as one of the word
-  none_between : (t : ℕ) → ((j : ℕ) → m.at ≤ j → j < t → T (o (base + j)) → ⊥) → (j : ℕ) → base + m.at ≤ j → j < base + t → T (o j) → ⊥
-  none_between t f j a b h =
-      let e : j ≡ base + (j - base) = omega arith in
-      f (j - base) (omega arith) (omega arith) (subst (λ (y : ℕ). T (o y)) e h)
-
-  -- the first place of the rest
-  pub midway-first : 0 < x → (count_trailing_zeros 64 x < 64) × T (o (base + count_trailing_zeros 64 x)) × P (base + count_trailing_zeros 64 x)
-  midway-first some =
-      let f = rest-first m.rest some in (
-        f.within,
-        f.is,
-        skips (base + m.at) (base + count_trailing_zeros 64 x) (omega (arith, f.after)) (none_between (count_trailing_zeros 64 x) f.skipped) m.walked,
-      )
+module _ {o : ℕ → Bool} {P : ℕ → Type 0} {x : ℕ} where
+  -- the place that comes next
+  pub midway-first : Midway o P x → Skips o P → 0 < x → (count_trailing_zeros 64 x < 64) × T (o (count_trailing_zeros 64 x)) × P (count_trailing_zeros 64 x)
+  midway-first m skips some =
+      let f = rest-first m.rest some in
+      (f.within, f.is, skips m.at (count_trailing_zeros 64 x) (omega (arith, f.after)) f.skipped m.walked)
 
   -- past it, where more holds
-  pub midway-next : 0 < x → (Q : ℕ → Type 0) → Q (base + count_trailing_zeros 64 x + 1) → Midway o Q base (bit_and x (x - 1))
-  midway-next some Q q =
+  pub midway-next : {Q : ℕ → Type 0} → Midway o P x → 0 < x → Q (count_trailing_zeros 64 x + 1) → Midway o Q (bit_and x (x - 1))
+  midway-next m some q =
       let f = rest-first m.rest some in
-      let e : base + count_trailing_zeros 64 x + 1 ≡ base + (count_trailing_zeros 64 x + 1) = omega arith in
-      record { at = count_trailing_zeros 64 x + 1; few = omega (arith, f.within); rest = f.next; walked = subst Q e q }
+      record { at = count_trailing_zeros 64 x + 1; few = omega (arith, f.within); rest = f.next; walked = q }
 
   -- the whole word
-  pub midway_end : x ≡ 0 → P (base + 64)
-  midway_end z = skips (base + m.at) (base + 64) (omega (arith, m.few)) (none_between 64 (rest_end m.rest z)) m.walked
+  pub midway_end : Midway o P x → Skips o P → x ≡ 0 → P 64
+  midway_end m skips z = skips m.at 64 m.few (rest_end m.rest z) m.walked
+
+-- a stretch of a row that begins at a place, as one from 0 on
+pub skips_from : (o : ℕ → Bool) {P : ℕ → Type 0} (base : ℕ) → Skips o P → Skips (λ j. o (base + j)) (λ j. P (base + j))
+skips_from o base skips p q h none = skips (base + p) (base + q) (omega arith) (λ j a b t.
+    let e : j ≡ base + (j - base) = omega arith in
+    none (j - base) (omega arith) (omega arith) (subst (λ (y : ℕ). T (o y)) e t))
 
 -- ---- what is asked of each place of a row, as far as p
 
@@ -70,8 +61,8 @@ module _ (o : ℕ → Bool) (Q : ℕ → Type 0) where
   pub each-skips : Skips o (λ p. (w : ℕ) → w < p → T (o w) → Q w)
   each-skips p q h none g w l t = elim (le? p w) [ inl a ↦ absurd (none w a l t) | inr a ↦ g w a t ]
 
-  pub each-add : (p : ℕ) → ((w : ℕ) → w < p → T (o w) → Q w) → Q p → (w : ℕ) → w < p + 1 → T (o w) → Q w
-  each-add p g h w l t = elim (eq? w p) [ inl e ↦ subst Q (sym e) h | inr d ↦ g w (omega arith) t ]
+  pub each-add : {p : ℕ} → ((w : ℕ) → w < p → T (o w) → Q w) → Q p → (w : ℕ) → w < p + 1 → T (o w) → Q w
+  each-add {p} g h w l t = elim (eq? w p) [ inl e ↦ subst Q (sym e) h | inr d ↦ g w (omega arith) t ]
 
 -- ---- a row of a rank below the highest
 
@@ -79,7 +70,7 @@ module _ (S : Shape) (bs t : List ℕ) (v : ℕ) where
   pub walked-skips : Skips (owns_at S bs v) (Walked S bs t v)
   unfolding partly
   walked-skips p q h none w = record {
-    right = each-skips (owns_at S bs v) (Right S bs v) p q h none w.right;
+    right = each-skips _ _ p q h none w.right;
     tally = record {
       long = w.tally.long;
       at = λ x r hx hr. w.tally.at x r hx hr ∙ ap (λ (y : ℕ). tallied S bs v x r + y) (share-skip S bs v p q x r h none);
@@ -89,7 +80,7 @@ module _ (S : Shape) (bs t : List ℕ) (v : ℕ) where
   pub walked-add : (u : List ℕ) (w : ℕ) → Walked S bs t v w → T (owns_at S bs v w) → Right S bs v w → Added S t u v w (rank_at bs v) → Walked S bs u v (w + 1)
   unfolding partly
   walked-add u w k o r a = record {
-    right = each-add (owns_at S bs v) (Right S bs v) w k.right r;
+    right = each-add _ _ k.right r;
     tally = record {
       long = a.long ∙ k.tally.long;
       at = λ x s hx hs. omega (arith, a.at x s hs, k.tally.at x s hx hs, share-add S bs v w x s o);

@@ -28,6 +28,10 @@ pub record Walked (S : Shape) (bs t : List ℕ) (v p : ℕ) : Type 0 where
 abbrev pub OnceBelow : Shape → List ℕ → ℕ → ℕ → Type 0
 OnceBelow S bs v p = (w : ℕ) → w < p → T (owns_at S bs v w) → T (owns_at S bs w v) → ⊥
 
+-- the same of the edges of row v in its word k
+abbrev pub OnceIn : Shape → List ℕ → ℕ → ℕ → Type 0
+OnceIn S bs v k = (j : ℕ) → j < 64 → T (owns_at S bs v (64 * k + j)) → T (owns_at S bs (64 * k + j) v) → ⊥
+
 -- the places up to v, to the end of a word of 64
 abbrev pub word_end : ℕ → ℕ
 word_end v = 64 * (v / 64 + 1)
@@ -77,6 +81,13 @@ RankedBelow S bs r p = (v : ℕ) → v < p → T (roster_at S bs r v) → rank_a
 abbrev pub AllRankedBelow : Shape → List ℕ → ℕ → Type 0
 AllRankedBelow S bs p = (r : ℕ) → r ≤ S.levels → RankedBelow S bs r p
 
+-- the same of those in word k of the roster, or of every roster
+abbrev pub RankedIn : Shape → List ℕ → ℕ → ℕ → Type 0
+RankedIn S bs r k = (j : ℕ) → j < 64 → T (roster_at S bs r (64 * k + j)) → rank_at bs (64 * k + j) ≡ r
+
+abbrev pub AllRankedIn : Shape → List ℕ → ℕ → Type 0
+AllRankedIn S bs k = (r : ℕ) → r < suc S.levels → RankedIn S bs r k
+
 -- v is in the roster of a rank below m
 unfoldable pub listed_in : Shape → List ℕ → ℕ → ℕ → Bool
 listed_in S bs zero v = false
@@ -87,6 +98,11 @@ listed_in S bs (suc m) v = listed_in S bs m v || roster_at S bs m v
 pub record RostersBelow (S : Shape) (bs : List ℕ) (n p : ℕ) : Type 0 where
   pub ranked : AllRankedBelow S bs p
   pub together : (v : ℕ) → v < p → listed_in S bs (suc S.levels) v ≡ ltb v n
+
+-- and in their word k
+pub record RostersIn (S : Shape) (bs : List ℕ) (n k : ℕ) : Type 0 where
+  pub ranked : AllRankedIn S bs k
+  pub together : (j : ℕ) → j < 64 → listed_in S bs (suc S.levels) (64 * k + j) ≡ ltb (64 * k + j) n
 
 abbrev pub Rosters : Shape → List ℕ → ℕ → Type 0
 Rosters S bs n = RostersBelow S bs n S.most

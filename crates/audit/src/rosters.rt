@@ -3,66 +3,45 @@ ghost use Rattle.std.specs.Prelude.{suc, ◌+◌, ◌*◌, ◌<◌, ◌≤◌};
 ghost use Rattle.model.specs.Shape.{low};
 ghost use Rattle.model.proofs.Facts.{Says};
 ghost use Rattle.bitset.specs.Words.{Rest};
-ghost use Rattle.layout.specs.Setters.{Sized};
-ghost use Rattle.audit.specs.Parts.{listed_in, RankedBelow, AllRankedBelow, RostersBelow, Rosters};
+ghost use Rattle.audit.specs.Parts.{listed_in, RankedIn, AllRankedIn, RostersIn, Rosters};
 
-// Whether those in word k of the roster of rank r have that rank, as those in the words before it.
-fn ranked_word(rack: &[u8], r: usize, k: usize) -> bool
-    requires sized { Sized low rack.now }
+use crate::bits;
+use layout::shape::{LEVELS, MOST, Rack};
+
+// Whether those in word k of the roster of rank r have that rank.
+fn ranked_word(rack: &Rack, r: usize, k: usize) -> bool
     requires r_le_levels { r ≤ low.levels }
     requires k_bound { 64 * k < low.most }
-    requires ranked_below { RankedBelow low rack.now r (64 * k) }
-    ensures { Says result (RankedBelow low rack.now r (64 * k + 64)) }
+    ensures { Says result (RankedIn low rack.now r k) }
 {
-    let mut x = layout::rosters::word(rack, r, k);
-    while x != 0 {
-        let v = layout::walk::place(k, x);
-        if layout::rank(rack, v) as usize != r {
-            return false;
-        }
-        x = x & (x - 1);
-    }
-    true
+    let word = layout::rosters::word(rack, r, k);
+    bits::all(k, word, |v| layout::rank(rack, v) as usize == r)
 }
 
-// Whether those in word k of any roster have its rank, as those in the words before it.
-fn ranked_words(rack: &[u8], k: usize) -> bool
-    requires sized { Sized low rack.now }
+// Whether those in word k of any roster have its rank.
+fn ranked_words(rack: &Rack, k: usize) -> bool
     requires k_bound { 64 * k < low.most }
-    requires all_ranked_below { AllRankedBelow low rack.now (64 * k) }
-    ensures { Says result (AllRankedBelow low rack.now (64 * k + 64)) }
+    ensures { Says result (AllRankedIn low rack.now k) }
 {
-    let mut r = 0;
-    while r <= layout::shape::LEVELS {
-        if !ranked_word(rack, r, k) {
-            return false;
-        }
-        r += 1;
-    }
-    true
+    (0..LEVELS + 1).all(|r| ranked_word(rack, r, k))
 }
 
 // Who is in a roster, among the 64 vertices from 64 k on, as one word.
-fn listed(rack: &[u8], k: usize) -> u64
-    requires sized { Sized low rack.now }
+fn listed(rack: &Rack, k: usize) -> u64
     requires k_bound { 64 * k < low.most }
     ensures { Rest (λ j. listed_in low rack.now (suc low.levels) (64 * k + j)) 0 result }
 {
     let mut x: u64 = 0;
-    let mut q = 0;
-    while q <= layout::shape::LEVELS {
-        x = x | layout::rosters::word(rack, q, k);
-        q += 1;
+    for q in 0..=LEVELS {
+        x |= layout::rosters::word(rack, q, k);
     }
     x
 }
 
-// Whether the rosters of a rack of n vertices are right in word k, as in the words before it. Where none is listed, no rank is to be looked up.
-fn right_word(rack: &[u8], n: usize, k: usize) -> bool
-    requires sized { Sized low rack.now }
+// Whether the rosters of a rack of n vertices are right in word k. Where none is listed, no rank is to be looked up.
+fn right_word(rack: &Rack, n: usize, k: usize) -> bool
     requires k_bound { 64 * k < low.most }
-    requires rosters_below { RostersBelow low rack.now n (64 * k) }
-    ensures { Says result (RostersBelow low rack.now n (64 * k + 64)) }
+    ensures { Says result (RostersIn low rack.now n k) }
 {
     let x = listed(rack, k);
     if x != layout::words::below(n, k) {
@@ -75,16 +54,8 @@ fn right_word(rack: &[u8], n: usize, k: usize) -> bool
 }
 
 // Whether the rosters of a rack of n vertices are right.
-pub fn all(rack: &[u8], n: usize) -> bool
-    requires { Sized low rack.now }
+pub fn all(rack: &Rack, n: usize) -> bool
     ensures { Says result (Rosters low rack.now n) }
 {
-    let mut k = 0;
-    while 64 * k < layout::shape::MOST {
-        if !right_word(rack, n, k) {
-            return false;
-        }
-        k += 1;
-    }
-    true
+    (0..MOST / 64).all(|k| right_word(rack, n, k))
 }

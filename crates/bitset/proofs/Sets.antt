@@ -2,18 +2,18 @@
 -- Assumes nothing.
 use mathlib.Core.Path.{◌≡◌, refl, sym, ap, ap₂, subst, ◌∙◌}
 use mathlib.Core.Logic.{inl, inr}
-use mathlib.Core.Bool.{Bool, true, not, ◌&&◌, ◌||◌}
+use mathlib.Core.Bool.{Bool, not, ◌&&◌, ◌||◌}
 use Prim.Native.Nat.{ℕ, zero, suc, ◌+◌, ◌-◌, ◌*◌, ◌/◌, ◌%◌, ◌^◌, ◌≤◌, ◌<◌}
-use native.Mathlib.Nat.{pow-suc}
 use native.Mathlib.Omega.{arith}
 use lib.Dec.{T, eqb, ltb, ltb→lt, lt→ltb}
 use lib.Bits.{bit_and, bit_or, bit_xor, and_le_l, and_le_r, or_add_and, or_lt, xor_lt, xor_shr, xor_mod}
 use lib.Pow.{pow_pos, pow_mono}
 use Rattle.model.specs.Parts.{bit_of}
 use Rattle.model.proofs.Tests.{le?, T_true, T_false, bool-ext, and_intro, and_left, and_right}
-use Rattle.bitset.specs.Words.{Rest, Got}
-use Rattle.bitset.proofs.Digits.{digit, digit_lt, digit_or, digit_and, bit_of-digit, digits-ext, set-small}
-use Rattle.bitset.proofs.Words.{digit-zero, rest_end, got-none, got-more}
+use Rattle.bitset.specs.Words.{Rest}
+use Rattle.std.proofs.lemmas.Nat.Bits.{bit_at_ones, bit_at_ones_above}
+use Rattle.bitset.proofs.Digits.{digit, digit_lt, digit_or, digit_and, digit-bit_of, bit_of-digit, digits-ext}
+use Rattle.bitset.proofs.Words.{digit-zero, rest_end}
 
 -- ---- bit by bit
 
@@ -137,25 +137,18 @@ merged-more p from k x y f m r =
 
 -- ---- the first places
 
-full : (m : ℕ) → Got (λ j. true) m (2 ^ m - 1)
-full zero = got-none (λ j. true)
-full (suc m) =
-    let e : 2 ^ m - 1 + 2 ^ m ≡ 2 ^ suc m - 1 = omega (arith, pow-suc 2 m, pow_pos m) in
-    subst (Got (λ j. true) (suc m)) e (got-more (full m) tt)
-
 pub first_rest : (m : ℕ) → m ≤ 64 → Rest (λ j. ltb j m) 0 (2 ^ m - 1)
-first_rest m h =
-    let got : Got (λ j. true) m (2 ^ m - 1) = full m in
-    record {
-      fits = omega (arith, got.fits, pow_mono {i = m} {j = 64} h);
-      none = λ j l. absurd (omega arith);
-      same = λ j a l. elim (le? m j) [
-        | inl past ↦
-            T_false {b = bit_of (2 ^ m - 1) j} (λ t. omega (arith, set-small m (2 ^ m - 1) j got.fits (bit_of-digit (2 ^ m - 1) j t)))
-            ∙ sym (T_false {b = ltb j m} (λ t. omega (arith, ltb→lt j m t)))
-        | inr below ↦ got.same j below ∙ sym (T_true {b = ltb j m} (lt→ltb j m below))
-      ];
-    }
+unfolding digit
+first_rest m h = record {
+  fits = omega (arith, pow_pos m, pow_mono {i = m} {j = 64} h);
+  none = λ j l. absurd (omega arith);
+  same = λ j a l. elim (le? m j) [
+    | inl past ↦
+        T_false {b = bit_of (2 ^ m - 1) j} (λ t. omega (arith, bit_at_ones_above m j past, bit_of-digit (2 ^ m - 1) j t))
+        ∙ sym (T_false {b = ltb j m} (λ t. omega (arith, ltb→lt j m t)))
+    | inr below ↦ T_true {b = bit_of (2 ^ m - 1) j} (digit-bit_of (2 ^ m - 1) j (bit_at_ones m j below)) ∙ sym (T_true {b = ltb j m} (lt→ltb j m below))
+  ];
+}
 
 -- all of them, and more
 pub all_rest : (m : ℕ) → 64 ≤ m → Rest (λ j. ltb j m) 0 (2 ^ 64 - 1)

@@ -19,8 +19,10 @@ use Rattle.theory.proofs.ChangeStep.{Step}
 use Rattle.theory.proofs.OnBytes.{Rack, step, next-rack}
 use Rattle.moves.proofs.Edges.{edge-turn}
 use Rattle.settling.specs.declared.tally.Tally.{Tally}
-use Rattle.changes.specs.declared.Answer.{Answer}
-use Rattle.changes.specs.Sounded.{Sounded, Acceptable, accepted_run, Answers, figures}
+use Rattle.std.specs.Prelude.{Ok}
+use Rattle.calls.specs.declared.Figures.{Figures}
+use Rattle.calls.specs.Terms.{told}
+use Rattle.changes.specs.Sounded.{Sounded, Acceptable, accepted_run}
 use Rattle.changes.specs.Working.{Tried}
 
 -- the two numbers in order are the same two
@@ -105,25 +107,25 @@ module _ {S : Shape} {bs : List ℕ} (ok : Sounded S bs) (c : Change) where
   whole = step (read S bs) (sounded-rack ok) c
 
   -- its number
-  abbrev pub number_of : ℕ
-  number_of = number (read S bs).n (edge (read S bs)) (runs_out (rules_at bs) (read S bs) c) c
+  abbrev pub the_number : ℕ
+  the_number = number (read S bs).n (edge (read S bs)) (runs_out (rules_at bs) (read S bs) c) c
 
   -- refused by k: that number and zeros, and the rack as it was
-  module _ {k : ℕ} (some : k ≢ 0) (is : number_of ≡ k) where
+  module _ {k : ℕ} (some : k ≢ 0) (is : the_number ≡ k) where
     kept : ((change (rules_at bs) (read S bs) c).state ≡ read S bs) × ((change (rules_at bs) (read S bs) c).answer ≡ refused k)
     kept =
         let n : (change (rules_at bs) (read S bs) c).answer.number ≡ k = whole.number ∙ is in
         let r = whole.refused-keeps (λ z. some (sym n ∙ z)) in
         (r.0, r.1 ∙ ap refused n)
 
-    pub refused-answer : (r : Answer) → Answers r (refused k) → Answers r (change (rules_at bs) (read S bs) c).answer
-    refused-answer r a = subst (Answers r) (sym kept.1) a
+    pub refused-answer : refused k ≡ (change (rules_at bs) (read S bs) c).answer
+    refused-answer = sym kept.1
 
     pub refused-leaves : bs ≡ write (change (rules_at bs) (read S bs) c).state
     refused-leaves = ok.written ∙ ap write (sym kept.0)
 
   -- .. by one of 7 to 11, which come first
-  pub fits-early : (k : ℕ) → early (read S bs).n (edge (read S bs)) c ≡ k → k ≢ 0 → number_of ≡ k
+  pub fits-early : (k : ℕ) → early (read S bs).n (edge (read S bs)) c ≡ k → k ≢ 0 → the_number ≡ k
   fits-early zero e d = absurd (d refl)
   fits-early (suc k) e d = number-early (read S bs).n (edge (read S bs)) (runs_out (rules_at bs) (read S bs) c) c k e
 
@@ -133,13 +135,13 @@ module _ {S : Shape} {bs : List ℕ} (ok : Sounded S bs) (c : Change) where
     unfolding runs_out done
     out-is = ap (ltb (length c.words)) (ap (λ (d : Changed). d.answer.draws) (accepted-done (read S bs) c (rules_at bs)) ∙ sym x.draws)
 
-    told_is : (out : Bool) → ltb (length c.words) t.draws ≡ out → number_of ≡ elim out [ true ↦ 12 | false ↦ 0 ]
+    told_is : (out : Bool) → ltb (length c.words) t.draws ≡ out → the_number ≡ elim out [ true ↦ 12 | false ↦ 0 ]
     told_is out e =
         number-told (read S bs).n (edge (read S bs)) (runs_out (rules_at bs) (read S bs) c) c z
         ∙ ap (λ (y : Bool). elim y as (λ o. ℕ) [ true ↦ 12 | false ↦ 0 ]) (out-is ∙ e)
 
     -- it runs out of words
-    pub fits_out : length c.words < t.draws → number_of ≡ 12
+    pub fits_out : length c.words < t.draws → the_number ≡ 12
     fits_out h = told_is true (leb_yes (suc (length c.words)) t.draws h)
 
     -- it does not: what is answered and left is the run's
@@ -161,16 +163,13 @@ module _ {S : Shape} {bs : List ℕ} (ok : Sounded S bs) (c : Change) where
       pub accepted-sounded : Sounded S bs'
       accepted-sounded = sounded-of bs' _ run-shape (x.made enough) run-rack
 
-      pub accepted-answer : (r : Answer) → Answers r (figures t (read S bs')) → Answers r (change (rules_at bs) (read S bs) c).answer
+      pub accepted-answer : (f : Figures) → f.draws ≡ t.draws → f.falls ≡ t.falls → f.pairs ≡ pairs (read S bs')
+          → told (Ok f) ≡ (change (rules_at bs) (read S bs) c).answer
       unfolding done
-      accepted-answer r a =
-          rw run_is
-          (record {
-            number = a.number;
-            draws = a.draws ∙ x.draws;
-            falls = a.falls ∙ x.falls;
-            pairs = a.pairs ∙ ap pairs (rack-reads bs' _ run-shape (x.made enough) run-rack);
-          })
+      accepted-answer f d l p =
+          let k = p ∙ ap pairs (rack-reads bs' _ run-shape (x.made enough) run-rack) in
+          (λ i. record { number = 0; draws = (d ∙ x.draws) i; falls = (l ∙ x.falls) i; pairs = k i })
+          ∙ ap (λ (y : Changed). y.answer) (sym run_is)
 
       pub accepted-leaves : bs' ≡ write (change (rules_at bs) (read S bs) c).state
       unfolding done

@@ -1,34 +1,36 @@
 -- What is left of a trial: all of the run if its words sufficed, and otherwise the bytes as they were. Assumes nothing.
-use mathlib.Core.Path.{◌≡◌, sym, subst}
+use mathlib.Core.Path.{◌≡◌, subst, ◌∙◌}
 use mathlib.Core.Logic.{◌⊎◌, inl, inr}
 use mathlib.Core.Bool.{Bool, true, false}
 use mathlib.Core.List.{List}
 use Prim.Native.Nat.{ℕ, ◌/◌, ◌≤◌, ◌<◌}
 use native.Mathlib.Omega.{arith}
 use lib.ListN.{length}
-use Rattle.model.specs.Shape.{Shape, low}
-use Rattle.model.specs.State.{Rules, State, edges}
+use Rattle.std.specs.Borrow.{MutBor}
+use Rattle.std.specs.Fn.{Once, FnOnceReturnsAtMut}
+use Rattle.model.specs.Shape.{low}
+use Rattle.model.specs.State.{State, edges}
 use Rattle.model.specs.Moves.{Run}
-use Rattle.model.specs.Change.{lower}
-use Rattle.model.proofs.Tests.{le?, leb_yes, leb_no, true-T}
-use Rattle.moves.specs.Proper.{Held}
+use Rattle.model.proofs.Tests.{le?, true-T}
+use Rattle.std.specs.Prelude.{min}
+use Rattle.std.proofs.Math.Nat.{min-eq_left, min-eq_right}
 use Rattle.drawing.specs.Sure.{Sure}
 use Rattle.drawing.proofs.Certain.{sure}
 use Rattle.settling.specs.declared.tally.Tally.{Tally}
 use Rattle.changes.specs.Sounded.{Ended}
-use Rattle.changes.specs.Working.{Workable, work_run, Tried, Enough}
-use Rattle.changes.specs.declared.working.Work.{Work}
-use Rattle.changes.specs.declared.working.Work.TheVariants.{Rise, Part}
-use Rattle.changes.proofs.Wholes.{sounded-held}
+use Rattle.changes.specs.Working.{TriedOut, Tried, Enough}
 
--- where it can be done, the bytes hold a state
-pub workable-held : {S : Shape} (bs : List ℕ) (w : Work) → Workable S bs w → Held S bs
-workable-held bs (Rise i u) a = a.0.held
-workable-held bs (Part a b) x = sounded-held bs x.0
+-- what is left of a run that was tried out
+pub tried-of : {ends : Tally → List ℕ → Type 0} {r : Run} {words bs bs' : List ℕ} {t : Tally} (x : TriedOut ends words bs bs' t)
+    → Ended r x.after t → Tried r words bs bs' t
+tried-of x e = record { draws = e.draws; falls = e.falls; made = λ h. x.made h ∙ e.rack; kept = x.kept }
 
--- what is left of the run of a work that is known
-pub work-as : (R : Rules) (words : List ℕ) (s : State) {w w' : Work} {bs : List ℕ} {t : Tally} → w ≡ w' → Ended (work_run R words w' s) bs t → Ended (work_run R words w s) bs t
-work-as R words s {bs = bs} {t} e x = subst (λ (y : Work). Ended (work_run R words y s) bs t) (sym e) x
+module _ {F : Type 0} {g : Once F (MutBor (List ℕ) × Unit {0}) (Tally × (MutBor (List ℕ) × Unit {0}))} {f : F} where
+  -- where work that was called on the bytes bs ended, by its run from the bytes that it was shown
+  pub ended-at : {bs after : List ℕ} {t : Tally} (run : List ℕ → Run) (x : FnOnceReturnsAtMut g f bs t after)
+      → Ended (run x.shown.now) x.left.now t → Ended (run bs) after t
+  ended-at {after = after} {t} run x e =
+      subst (λ (l : List ℕ). Ended (run l) after t) x.shows (subst (λ (l : List ℕ). Ended (run x.shown.now) l t) x.leaves e)
 
 module _ {r : Run} {words bs bs' : List ℕ} {t : Tally} (e : Ended r bs' t) where
   -- the words sufficed ..
@@ -49,20 +51,12 @@ sure-enough s i k words h true few b q = record {
 }
 sure-enough s i k words h false few b q = tt
 
--- the lower of two numbers is one of them
-lower-either : (x y : ℕ) → (x ≤ lower x y) ⊎ (y ≤ lower x y)
-unfolding lower
-lower-either x y = elim (le? x y) [
-  | inl l ↦ inl (rw (leb_yes x y l, lower) (omega arith))
-  | inr l ↦ inr (rw (leb_no x y l, lower) (omega arith))
-]
-
 -- where h is the lower of two numbers, half the vertices or more and the edges or more
-pub lower-enough : (s : State) (i k : ℕ) (words : List ℕ) {x y h : ℕ} (ok : Bool) → s.n ≤ low.most → s.n / 2 ≤ x → edges s ≤ y → h ≡ lower x y
+pub lower-enough : (s : State) (i k : ℕ) (words : List ℕ) {x y h : ℕ} (ok : Bool) → s.n ≤ low.most → s.n / 2 ≤ x → edges s ≤ y → h ≡ min x y
     → Sure ok words h → Enough ok s i k words
-lower-enough s i k words {x} {y} {h} ok few p r e q = sure-enough s i k words h ok few (elim (lower-either x y) [
-  | inl l ↦ inl (omega arith)
-  | inr l ↦ inr (inl (omega arith))
+lower-enough s i k words {x} {y} {h} ok few p r e q = sure-enough s i k words h ok few (elim (le? x y) [
+  | inl l ↦ inl (omega (arith, min-eq_left l))
+  | inr l ↦ inr (inl (let m : min x y ≡ y = min-eq_right (omega arith) in omega arith))
 ]) q
 
 -- the answer was yes, for as many as can draw or more

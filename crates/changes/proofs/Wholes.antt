@@ -1,11 +1,13 @@
 -- An add and a drop as wholes: from a sound rack to where their moves begin, and from there to the definition's run. Assumes nothing.
 use mathlib.Core.Path.{◌≡◌, refl, sym, ap, ◌∙◌, subst}
 use mathlib.Core.Logic.{◌≢◌, inl, inr}
-use mathlib.Core.Bool.{true, false}
+use mathlib.Core.Bool.{true, false, not}
 use mathlib.Core.List.{List}
 use Prim.Native.Nat.{ℕ, suc, ◌≤◌, ◌<◌}
 use native.Mathlib.Omega.{arith}
-use lib.Dec.{T}
+use lib.Dec.{T, eqb}
+use Rattle.std.specs.Prelude.{Option, None, Some}
+use Rattle.std.specs.Option.{option_eq}
 use lib.ListN.{length}
 use Rattle.model.specs.Shape.{Shape}
 use Rattle.model.specs.State.{Rules, State, edge, edges, pending}
@@ -13,18 +15,18 @@ use Rattle.model.specs.Bytes.{rules_at, kind_at, top_at, rank_at, mate_at, read,
 use Rattle.model.specs.Moves.{Found, Run, none, found, promote, settle}
 use Rattle.model.specs.Change.{start, start_parted, reown, add_edge, riser, add, drop}
 use Rattle.model.proofs.Shapes.{thr-one, thr-pos}
-use Rattle.model.proofs.Tests.{le?, T_true, eqb_yes, eqb_no}
+use Rattle.model.proofs.Tests.{eq?, le?, T_true, eqb_yes, eqb_no}
 use Rattle.theory.specs.Waiting.{marks, Paired}
 use Rattle.theory.specs.Quick.{Suffices}
 use Rattle.theory.proofs.Making.{add-quick, drop-quick}
+use Rattle.layout.specs.Setters.{MateIs}
 use Rattle.moves.specs.Proper.{Proper, Ordered, Held}
 use Rattle.moves.proofs.Held.{proper-pos, rules-as, held_of, held_small, held-rank, held-mate, reads_as, valid-proper, valid-ordered}
 use Rattle.edges.proofs.Changed.{drop_edge, add-size, add-proper, add-joined, drop-proper}
 use Rattle.edges.proofs.Undone.{undone}
 use Rattle.settling.specs.declared.tally.Tally.{Tally}
 use Rattle.changes.specs.Sounded.{Sounded, Begun, Liftable, Ended}
-use Rattle.changes.specs.Working.{Joins, work_run, Tried, Enough}
-use Rattle.changes.specs.declared.working.Work.TheVariants.{Rise, Part}
+use Rattle.changes.specs.Working.{Joins, rise_run, part_run, Tried, Enough}
 use Rattle.changes.proofs.Begun.{still, add-still, add-ordered, drop-ordered, Riser, riser-of, valid-paired, add-paired, entry-names, entry-not}
 use Rattle.changes.proofs.Chains.{Fresh}
 
@@ -115,13 +117,13 @@ module _ {S : Shape} {bs₀ : List ℕ} {a b : ℕ} {bs : List ℕ} (x : Added S
           some = r.some;
         }
 
-    added_is : (words : List ℕ) → add (rules_at bs₀) words a b (read S bs₀) ≡ work_run (rules_at bs) words (Rise i u) (read S bs)
+    added_is : (words : List ℕ) → add (rules_at bs₀) words a b (read S bs₀) ≡ rise_run (rules_at bs) words i u (read S bs)
     unfolding add
     added_is words =
         rw (searched f, add) (sym (λ k. settle (added-rules k) words (promote words i u (start (added-read k)))))
 
     -- words that are sure to suffice
-    pub added-enough : (words : List ℕ) → Enough true (read S bs) i 1 words → (work_run (rules_at bs) words (Rise i u) (read S bs)).draws ≤ length words
+    pub added-enough : (words : List ℕ) → Enough true (read S bs) i 1 words → (rise_run (rules_at bs) words i u (read S bs)).draws ≤ length words
     added-enough words q =
         let n : (read S bs).n ≡ (read S bs₀).n = ap (λ (s : State). s.n) added-read ∙ add-size a b (read S bs₀) in
         let few = add-quick (rules_at bs₀) pos (read S bs₀) x.from.valid words a b x.ends.0 x.ends.1 x.ends.2
@@ -131,7 +133,7 @@ module _ {S : Shape} {bs₀ : List ℕ} {a b : ℕ} {bs : List ℕ} (x : Added S
         omega (arith, few, ap (λ (r : Run). r.draws) (added_is words))
 
     -- it is made, or the edge is taken out again
-    module _ (words : List ℕ) {bs' : List ℕ} {t : Tally} (r : Tried (work_run (rules_at bs) words (Rise i u) (read S bs)) words bs bs' t) where
+    module _ (words : List ℕ) {bs' : List ℕ} {t : Tally} (r : Tried (rise_run (rules_at bs) words i u (read S bs)) words bs bs' t) where
       pub added-made : t.draws ≤ length words → Tried (add (rules_at bs₀) words a b (read S bs₀)) words bs₀ bs' t
       added-made h = rw (added_is words) (record { draws = r.draws; falls = r.falls; made = r.made; kept = λ l. absurd (omega arith) })
 
@@ -182,7 +184,7 @@ module _ {S : Shape} {bs₀ : List ℕ} {a b : ℕ} {bs : List ℕ} (x : Dropped
   dropped-rules = rules-as bs (drop_edge a b (read S bs₀)) x.rack dropped-proper
 
   pub dropped-pair : (words : List ℕ) {bs' : List ℕ} {t : Tally} → Ended (settle (rules_at bs) words (start_parted a b (read S bs))) bs' t
-      → Ended (work_run (rules_at bs₀) words (Part a b) (read S bs₀)) bs' t
+      → Ended (part_run (rules_at bs₀) words a b (read S bs₀)) bs' t
   dropped-pair words {bs'} {t} r =
       subst (λ (s : State). Ended (settle (rules_at bs₀) words (start_parted a b s)) bs' t) dropped-read
       (subst (λ (R : Rules). Ended (settle R words (start_parted a b (read S bs))) bs' t) dropped-rules r)
@@ -205,14 +207,24 @@ module _ {S : Shape} {bs : List ℕ} (ok : Sounded S bs) {a b : ℕ} (ends : (a 
       entry : k ≡ mate_entry (read S bs) a
       entry = m ∙ held-mate held a (held_small held a ends.0)
 
-      pub joins : k ≡ b → Joins (read S bs) a b
+      joins : k ≡ b → Joins (read S bs) a b
       joins e = record {
         ends = ends;
         mates = entry-names (read S bs) a b ends.2 (omega (arith, held_small held b ends.1, ok.kind.shape.named)) (sym entry ∙ e);
       }
 
-      pub loose : k ≢ b → (read S bs).mate a ≢ b
+      loose : k ≢ b → (read S bs).mate a ≢ b
       loose d = entry-not (read S bs) a b ends.2 (λ e. d (entry ∙ e))
+
+    -- the mate that is read is b, or it is not
+    pub mate-joins : (m : Option ℕ) → MateIs (mate_at S bs a) m → not (option_eq eqb m (Some b)) ≡ false → Joins (read S bs) a b
+    mate-joins None i e = (cc)
+    mate-joins (Some x) i e = elim (eq? x b) [ inl f ↦ joins i.0 f | inr d ↦ let f = ap not (eqb_no x b d) in cc ]
+
+    pub mate-loose : (m : Option ℕ) → MateIs (mate_at S bs a) m → not (option_eq eqb m (Some b)) ≡ true → (read S bs).mate a ≢ b
+    mate-loose None i e =
+        let h = sounded-held bs ok in loose refl (λ z. omega (arith, held_small h b ends.1, ok.kind.shape.named))
+    mate-loose (Some x) i e = loose i.0 (λ z. let f = ap not (eqb_yes x b z) in cc)
 
     -- its level, once its rank is read
     pub pair-rank : {k : ℕ} → k ≡ rank_at bs a → Joins (read S bs) a b → ((read S bs).rank a ≡ k) × (1 ≤ k)
@@ -226,16 +238,17 @@ module _ {S : Shape} {bs : List ℕ} (ok : Sounded S bs) {a b : ℕ} (ends : (a 
         )
 
     module _ (words : List ℕ) (j : Joins (read S bs) a b) where
-      pair_is : drop (rules_at bs) words a b (read S bs) ≡ work_run (rules_at bs) words (Part a b) (read S bs)
+      pair_is : drop (rules_at bs) words a b (read S bs) ≡ part_run (rules_at bs) words a b (read S bs)
       unfolding drop
       pair_is = rw (eqb_yes ((read S bs).mate a) b j.mates, drop) refl
 
       -- words that are sure to suffice
-      pub pair-enough : {i : ℕ} → (read S bs).rank a ≡ suc i → Enough true (read S bs) i 2 words → (work_run (rules_at bs) words (Part a b) (read S bs)).draws ≤ length words
+      pub pair-enough : {i : ℕ} → (read S bs).rank a ≡ suc i → Enough true (read S bs) i 2 words
+          → (part_run (rules_at bs) words a b (read S bs)).draws ≤ length words
       pair-enough l q =
           let few = drop-quick (rules_at bs) (thr-pos ok.kind) (read S bs) ok.valid words a b ends.0 ends.1 ends.2 (thr-one (kind_at S bs)) j.mates l q in
           omega (arith, few, ap (λ (r : Run). r.draws) pair_is)
 
-      pub pair-tried : {bs' : List ℕ} {t : Tally} → Tried (work_run (rules_at bs) words (Part a b) (read S bs)) words bs bs' t
+      pub pair-tried : {bs' : List ℕ} {t : Tally} → Tried (part_run (rules_at bs) words a b (read S bs)) words bs bs' t
           → Tried (drop (rules_at bs) words a b (read S bs)) words bs bs' t
       pair-tried r = rw pair_is r

@@ -1,15 +1,18 @@
 -- A change of a sound rack: how it is brought, the numbers of its parts, and what it answers and leaves. Assumes nothing.
-use Rattle.std.specs.Prelude.{◌≡◌, ◌≢◌, Bool, true, false, ◌&&◌, ◌||◌, List, ℕ, zero, suc, ◌≤◌, ◌<◌, T, eqb, ltb}
+use Rattle.std.specs.Prelude.{◌≡◌, ◌≢◌, Bool, true, false, ◌&&◌, List, ℕ, ◌≤◌, ◌<◌, T, eqb, ltb, Result, Ok, Err}
 use Rattle.model.specs.Shape.{Shape}
-use Rattle.model.specs.State.{Rules, GoodKind, State, edge, below, pending, pairs}
+use Rattle.model.specs.State.{Rules, GoodKind, State, edge, below, pending}
 use Rattle.model.specs.Bytes.{kind_at, rules_at, read, write}
 use Rattle.model.specs.Valid.{Valid}
 use Rattle.model.specs.Moves.{Run}
-use Rattle.model.specs.Change.{Change, Answer as AnswerOf, lower, upper, add, drop}
+use Rattle.model.specs.Change.{Change, lower, upper, early, add, drop}
 use Rattle.theory.specs.Waiting.{marks, Paired}
 use Rattle.moves.specs.Proper.{Ordered, Held}
 use Rattle.settling.specs.declared.tally.Tally.{Tally}
-use Rattle.changes.specs.declared.Answer.{Answer}
+use Rattle.calls.specs.declared.Kind.{Kind}
+use Rattle.calls.specs.declared.Kind.TheVariants.{Add, Drop}
+use Rattle.calls.specs.declared.Refusal.{Refusal}
+use Rattle.calls.specs.Terms.{code_of, number_of}
 
 -- the bytes are the writing of a state of a good kind, valid by its own rules: exactly the sound racks are (model, proofs/Bridge.antt)
 pub record Sounded (S : Shape) (bs : List ℕ) : Type 0 where
@@ -51,37 +54,21 @@ pub record Ended (r : Run) (bs : List ℕ) (t : Tally) : Type 0 where
   pub draws : t.draws ≡ r.draws
   pub falls : t.falls ≡ r.falls
 
--- the answer in the code's words is the definition's, figure by figure
-pub record Answers (r : Answer) (x : AnswerOf) : Type 0 where
-  pub number : r.number ≡ x.number
-  pub draws : r.draws ≡ x.draws
-  pub falls : r.falls ≡ x.falls
-  pub pairs : r.pairs ≡ x.pairs
-
--- what is answered of an accepted change that came to the tally t and left the state s
-abbrev pub figures : Tally → State → AnswerOf
-figures t s = record { number = 0; draws = t.draws; falls = t.falls; pairs = pairs s }
-
 -- a change by what a call brings
 abbrev pub brought : ℕ → ℕ → ℕ → List ℕ → Change
 brought code a b words = record { code = code; a = a; b = b; words = words }
 
--- 7, or 0
-unfoldable pub code_number : ℕ → ℕ
-code_number code = elim (eqb code 1 || eqb code 2) [ true ↦ 0 | false ↦ 7 ]
+-- none of 7 to 11 fits the change, and this is its kind; or the first that fits
+abbrev pub Checked : State → Change → Result Kind Refusal → Type 0
+Checked s c (Ok kind) = (early s.n (edge s) c ≡ 0) × (c.code ≡ code_of kind)
+Checked s c (Err why) = early s.n (edge s) c ≡ number_of why
 
 -- 8 or 9, or 0
 unfoldable pub ends_number : ℕ → ℕ → ℕ → ℕ
 ends_number n a b = elim (ltb a n && ltb b n) [ false ↦ 8 | true ↦ elim (eqb a b) [ true ↦ 9 | false ↦ 0 ] ]
 
 -- 10 or 11, or 0, by whether the edge is there
-unfoldable pub link_number : ℕ → Bool → ℕ
-link_number code there = elim there [
-  | true ↦ elim (eqb code 1) [ true ↦ 10 | false ↦ 0 ]
-  | false ↦ elim (eqb code 2) [ true ↦ 11 | false ↦ 0 ]
-]
-
--- the first of two numbers that is not 0, or 0
-unfoldable pub first : ℕ → ℕ → ℕ
-first zero y = y
-first (suc k) y = suc k
+abbrev pub link_number : Kind → Bool → ℕ
+link_number Add true = 10
+link_number Drop false = 11
+link_number _ _ = 0

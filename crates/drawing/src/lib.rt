@@ -36,8 +36,7 @@ pub fn decide(words: &[u32], used: usize, k: usize) -> Decision
     requires { (1 ≤ k) × (k ≤ low.most) }
     ensures { (result.number ≡ deciding words.now used k) × (result.place ≡ place_of words.now used k) }
 {
-    let mut j = used;
-    while j < words.len() {
+    for j in used..words.len() {
         let w = words[j];
         if chooses(w, k) {
             return Decision {
@@ -45,10 +44,9 @@ pub fn decide(words: &[u32], used: usize, k: usize) -> Decision
                 place: w as usize % k,
             };
         }
-        j += 1;
     }
     Decision {
-        number: j,
+        number: used.max(words.len()),
         place: 0,
     }
 }
@@ -58,16 +56,8 @@ pub fn decide(words: &[u32], used: usize, k: usize) -> Decision
 pub fn sure(words: &[u32], h: usize) -> bool
     ensures { Sure result words.now h }
 {
-    if words.len() < h {
+    let Some(first) = words.get(..h) else {
         return false;
-    }
-    let mut large = false;
-    let mut j = 0;
-    while j < h {
-        if SURE <= words[j] {
-            large = true;
-        }
-        j += 1;
-    }
-    !large
+    };
+    first.iter().fold(true, |small, w| small & (*w < SURE))
 }

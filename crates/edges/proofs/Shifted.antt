@@ -3,6 +3,8 @@ use mathlib.Core.Path.{◌≡◌, refl, sym, ap, ◌∙◌}
 use mathlib.Core.Logic.{◌≢◌, ◌⊎◌, inl, inr}
 use mathlib.Core.Bool.{true, false}
 use Prim.Native.Nat.{ℕ, suc, ◌+◌, ◌≤◌, ◌<◌}
+use Rattle.std.specs.Prelude.{max}
+use Rattle.std.proofs.Math.Nat.{le-max_left, le-max_right, max-le}
 use native.Mathlib.Omega.{arith}
 use mathlib.Core.List.{List}
 use lib.Dec.{leb}
@@ -25,11 +27,15 @@ pub record Higher (a b j : ℕ) (s : State) : Type 0 where
 
 -- the higher of the rank bytes, as the code finds it
 pub higher-of : {S : Shape} {bs : List ℕ} → Held S bs → (a b : ℕ) → a < S.most → b < S.most → {x y r : ℕ} → x ≡ rank_at bs a → y ≡ rank_at bs b
-    → (x ≤ r) × (y ≤ r) × ((z : ℕ) → x ≤ z → y ≤ z → r ≤ z) → Higher a b r (read S bs)
-higher-of h a b l k e f m =
+    → r ≡ max x y → Higher a b r (read S bs)
+higher-of h a b l k {x} {y} e f m =
     let c = held-rank h a l in
     let d = held-rank h b k in
-    record { a-low = omega (arith, m.0); b-low = omega (arith, m.1); least = λ z p q. m.2 z (omega arith) (omega arith) }
+    record {
+      a-low = omega (arith, le-max_left x y);
+      b-low = omega (arith, le-max_right x y);
+      least = λ z p q. let least : max x y ≤ z = max-le (omega arith) (omega arith) in omega arith;
+    }
 
 -- at a and b the counts of t are δ of those of s from level j on; all others are the same
 pub record Shifted (a b j : ℕ) (δ : ℕ → ℕ) (s t : State) : Type 0 where

@@ -1,12 +1,11 @@
 -- What one edge more or less does to the counts, and what the search for a rise finds. Assumes nothing.
-use Rattle.std.specs.Prelude.{Bool, List, ℕ, suc, ◌-◌, ◌≤◌, ◌<◌}
+use Rattle.std.specs.Prelude.{Bool, List, Option, None, Some, ℕ, suc, ◌-◌, ◌≤◌, ◌<◌}
 use Rattle.model.specs.Shape.{Shape}
 use Rattle.model.specs.Bytes.{edges_at, top_at, phi_at}
 use Rattle.model.specs.Moves.{Found, none, found}
 use Rattle.layout.specs.Setters.{set_edges}
 use Rattle.moves.specs.Counts.{step, CanStep, largest_count, largest_edges, recounted}
-use Rattle.edges.specs.declared.Reached.{Reached}
-use Rattle.edges.specs.declared.Reached.TheVariants.{At, Never}
+use Rattle.edges.specs.declared.Rise.{Rise}
 
 -- the counts of w from level j up to the top, one more or one less
 abbrev pub recounted_from : Shape → Bool → ℕ → List ℕ → ℕ → ℕ → List ℕ
@@ -30,6 +29,6 @@ pub record Countable (S : Shape) (more : Bool) (bs : List ℕ) (a b j : ℕ) : T
   pub of-edges : CanStep more (largest_edges S) (edges_at S (ends_counted S more bs a b j))
 
 -- the level reached and the riser, as the definition names them
-abbrev pub reached_by : Reached → Found
-reached_by Never = none
-reached_by (At i u) = found i u
+abbrev pub reached_by : Option Rise → Found
+reached_by None = none
+reached_by (Some x) = found x.level x.riser

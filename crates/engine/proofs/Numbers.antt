@@ -1,19 +1,22 @@
 -- The numbers of the calls, case by case: which is the first that fits. Assumes nothing.
-use mathlib.Core.Path.{◌≡◌, refl, sym, ◌∙◌}
+use mathlib.Core.Path.{◌≡◌, refl, sym, ◌∙◌, subst}
 use mathlib.Core.Logic.{◌≢◌, inl, inr}
 use mathlib.Core.Bool.{Bool, true, false, ◌||◌}
 use mathlib.Core.List.{List}
 use Prim.Native.Nat.{ℕ, suc, ◌≤◌, ◌<◌}
 use native.Mathlib.Omega.{arith}
-use lib.Dec.{eqb, eqb→eq}
-use lib.IntN.{ℤ}
+use lib.Dec.{T, eqb→eq}
+use lib.IntN.{ℤ, pos, pred_ℤ}
 use lib.ListN.{length}
 use Rattle.model.specs.Shape.{Shape, rack_length}
 use Rattle.model.specs.State.{Kind, edge, empty}
-use Rattle.model.specs.Counting.{count}
-use Rattle.model.specs.Bytes.{size_at, rank_at, owns_at, roster_at, read, write}
+use Rattle.model.specs.Counting.{bit, count}
+use Rattle.model.specs.Bytes.{size_at, rank_at, mate_at, owns_at, roster_at, read, write}
 use Rattle.model.specs.Sound.{size_good, settings_good, sound}
-use Rattle.model.specs.Calls.{sized, rack_number, asked_number, make_number, made, one_number, two_number, at_level}
+use Rattle.model.specs.Calls.{sized, rack_number, asked_number, make_number, made, one_number, two_number, audit}
+use Rattle.model.specs.Calls.{level_query, mate_query, linked_query, roster_query, at_level}
+use Rattle.std.specs.Prelude.{None, Some}
+use Rattle.engine.specs.Answers.{Ranks, sound_number, other_number}
 use Rattle.model.proofs.Tests.{eq?, le?, true-T, eqb_yes, eqb_no, leb_yes, leb_no}
 use Rattle.model.proofs.Counting.{count_none}
 use Rattle.model.proofs.Prefix.{count-ext}
@@ -21,23 +24,17 @@ use Rattle.model.proofs.Facts.{Facts, sound-says}
 use Rattle.model.proofs.Rosters.{roster-size}
 use Rattle.model.proofs.Reading.{read-owns}
 
--- what a test of a flag says of what it stands for
-pub flag_off : {r b : Bool} → r ≡ b → r ≡ false → b ≡ false
-flag_off e t = sym e ∙ t
-
-pub flag-on : {r b : Bool} → r ≡ b → r ≡ true → b ≡ true
-flag-on e t = sym e ∙ t
-
--- what the test of a number says
-pub told : {k m : ℕ} → k ≡ m → k ≢ 0 → eqb m 0 ≡ false
-told {k} {m} e d = eqb_no m 0 (λ z. d (e ∙ z))
-
-pub none_told : {k m : ℕ} → k ≡ m → k ≡ 0 → eqb m 0 ≡ true
-none_told {k} {m} e z = eqb_yes m 0 (sym e ∙ z)
-
 pub sized-length : (S : Shape) (bs : List ℕ) → sized S bs ≡ true → length bs ≡ rack_length S
 unfolding sized
 sized-length S bs e = eqb→eq (length bs) (rack_length S) (true-T e)
+
+pub sized-long : (S : Shape) (bs : List ℕ) → length bs ≡ rack_length S → sized S bs ≡ true
+unfolding sized
+sized-long S bs e = eqb_yes (length bs) (rack_length S) e
+
+pub sized-short : (S : Shape) (bs : List ℕ) → length bs ≢ rack_length S → sized S bs ≡ false
+unfolding sized
+sized-short S bs d = eqb_no (length bs) (rack_length S) d
 
 -- what is asked of a rack to be made: the first of 5 and 13 that fits
 module _ (K : Kind) (n : ℕ) where
@@ -88,6 +85,14 @@ module _ (S : Shape) (bs : List ℕ) where
   unfolding rack_number
   rack-zero e f = rw (e, f, rack_number) refl
 
+  -- 6 or 0, once the length is tested
+  pub rack-sized : length bs ≡ rack_length S → rack_number S bs ≡ sound_number (sound S bs)
+  rack-sized e = go (sound S bs) refl
+    where
+      go : (y : Bool) → sound S bs ≡ y → rack_number S bs ≡ sound_number y
+      go true f = rack-zero (sized-long S bs e) f
+      go false f = rack-six (sized-long S bs e) f
+
   -- neither fits: the bytes are as many as a rack has, and sound
   pub rack-good : rack_number S bs ≡ 0 → (sized S bs ≡ true) × (sound S bs ≡ true)
   rack-good = go (sized S bs) refl (sound S bs) refl
@@ -127,17 +132,12 @@ module _ (S : Shape) (bs : List ℕ) where
   unfolding two_number
   two_back v w d = rw (eqb_no (one_number S bs v) 0 d, two_number) refl
 
-  pub two-eight : (v w : ℕ) → one_number S bs v ≡ 0 → size_at bs ≤ w → two_number S bs v w ≡ 8
+  pub two-other : (v w : ℕ) → one_number S bs v ≡ 0 → two_number S bs v w ≡ other_number (size_at bs) v w
   unfolding two_number
-  two-eight v w e l = rw (eqb_yes (one_number S bs v) 0 e, leb_no (suc w) (size_at bs) (omega arith), two_number) refl
+  two-other v w e = rw (eqb_yes (one_number S bs v) 0 e, two_number) refl
 
-  pub two-nine : (v w : ℕ) → one_number S bs v ≡ 0 → w < size_at bs → v ≡ w → two_number S bs v w ≡ 9
-  unfolding two_number
-  two-nine v w e l f = rw (eqb_yes (one_number S bs v) 0 e, leb_yes (suc w) (size_at bs) l, eqb_yes v w f, two_number) refl
-
-  pub two-zero : (v w : ℕ) → one_number S bs v ≡ 0 → w < size_at bs → v ≢ w → two_number S bs v w ≡ 0
-  unfolding two_number
-  two-zero v w e l f = rw (eqb_yes (one_number S bs v) 0 e, leb_yes (suc w) (size_at bs) l, eqb_no v w f, two_number) refl
+  two-eight : (v w : ℕ) → one_number S bs v ≡ 0 → size_at bs ≤ w → two_number S bs v w ≡ 8
+  two-eight v w e l = two-other v w e ∙ rw (leb_no (suc w) (size_at bs) (omega arith), other_number) refl
 
   pub two_good : (v w : ℕ) → two_number S bs v w ≡ 0 → (one_number S bs v ≡ 0) × (w < size_at bs)
   two_good v w z = elim (eq? (one_number S bs v) 0) [
@@ -169,23 +169,69 @@ module _ (S : Shape) (bs : List ℕ) where
   pub linked-edge : (v w : ℕ) → two_number S bs v w ≡ 0 → owns_at S bs v w || owns_at S bs w v ≡ edge (read S bs) v w
   linked-edge v w z = let t = two_good v w z in sym (edge-owns v w (one-good v t.0).1 t.1)
 
-  -- The vertices at a level, where r is its rank: none, if r is past all ranks, and otherwise as many as its roster has.
-  module _ (z : rack_number S bs ≡ 0) (level : ℤ) (r : ℕ) (is : (x : ℕ) → x ≤ S.levels → at_level level x ≡ eqb x r) where
+  -- The vertices at a level: none, if no rank is the level's, and otherwise as many as the roster of its rank has.
+  module _ (z : rack_number S bs ≡ 0) (level : ℤ) where
     facts : Facts S bs
     facts = (sound-says S bs).fact (true-T (rack-good z).1)
 
     listed : (v : ℕ) → v < size_at bs → rank_at bs v ≤ S.levels
     listed v l = omega (arith, facts.ranks v l, facts.settings.room)
 
-    at-rank : count (λ v. at_level level (rank_at bs v)) (size_at bs) ≡ count (λ v. eqb (rank_at bs v) r) (size_at bs)
-    at-rank = count-ext _ _ (size_at bs) (λ v l. is (rank_at bs v) (listed v l))
+    pub level-none : Ranks S.levels level None → 0 ≡ count (λ v. at_level level (rank_at bs v)) (size_at bs)
+    level-none none = sym (count_none _ (size_at bs) (λ v l t. subst T (none (rank_at bs v) (listed v l)) t))
 
-    pub level-none : S.levels < r → 0 ≡ count (λ v. at_level level (rank_at bs v)) (size_at bs)
-    level-none past =
-        sym (at-rank ∙ count_none _ (size_at bs) (λ v l t. omega (arith, eqb→eq (rank_at bs v) r t, listed v l)))
+    pub level-roster : (r : ℕ) → Ranks S.levels level (Some r) → count (roster_at S bs r) S.most ≡ count (λ v. at_level level (rank_at bs v)) (size_at bs)
+    level-roster r is =
+        roster-size facts r (omega (arith, is.0)) ∙ sym (count-ext _ _ (size_at bs) (λ v l. is.1 (rank_at bs v)))
 
-    pub level-roster : r ≤ S.levels → count (roster_at S bs r) S.most ≡ count (λ v. at_level level (rank_at bs v)) (size_at bs)
-    level-roster l = roster-size facts r (omega arith) ∙ sym at-rank
+-- The answers of the audit and the queries: turned back with the number k, or answered.
+module _ (S : Shape) (bs : List ℕ) where
+  pub audit-back : length bs ≢ rack_length S → record { number = 1; yes = false } ≡ audit S bs
+  unfolding audit
+  audit-back d = sym (rw (sized-short S bs d, audit) refl)
+
+  pub audit-is : length bs ≡ rack_length S → record { number = 0; yes = sound S bs } ≡ audit S bs
+  unfolding audit
+  audit-is e = sym (rw (sized-long S bs e, audit) refl)
+
+  module _ (v : ℕ) where
+    pub level-back : {k : ℕ} → one_number S bs v ≡ k → k ≢ 0 → record { number = k; level = pos 0 } ≡ level_query S bs v
+    unfolding level_query
+    level-back e d =
+        (λ i. record { number = sym e i; level = pos 0 }) ∙ sym (rw (eqb_no (one_number S bs v) 0 (λ z. d (sym e ∙ z)), level_query) refl)
+
+    pub level-is : one_number S bs v ≡ 0 → record { number = 0; level = pred_ℤ (pos (rank_at bs v)) } ≡ level_query S bs v
+    unfolding level_query
+    level-is e = sym (rw (e, level_query) refl)
+
+    pub mate-back : {k : ℕ} → one_number S bs v ≡ k → k ≢ 0 → record { number = k; value = 0 } ≡ mate_query S bs v
+    unfolding mate_query
+    mate-back e d =
+        (λ i. record { number = sym e i; value = 0 }) ∙ sym (rw (eqb_no (one_number S bs v) 0 (λ z. d (sym e ∙ z)), mate_query) refl)
+
+    pub mate-is : one_number S bs v ≡ 0 → record { number = 0; value = mate_at S bs v } ≡ mate_query S bs v
+    unfolding mate_query
+    mate-is e = sym (rw (e, mate_query) refl)
+
+    pub linked-back : (w : ℕ) {k : ℕ} → two_number S bs v w ≡ k → k ≢ 0 → record { number = k; value = 0 } ≡ linked_query S bs v w
+    unfolding linked_query
+    linked-back w e d =
+        (λ i. record { number = sym e i; value = 0 }) ∙ sym (rw (eqb_no (two_number S bs v w) 0 (λ z. d (sym e ∙ z)), linked_query) refl)
+
+    pub linked-is : (w : ℕ) → two_number S bs v w ≡ 0 → record { number = 0; value = bit (edge (read S bs) v w) } ≡ linked_query S bs v w
+    unfolding linked_query
+    linked-is w e = sym (rw (e, linked_query) refl)
+
+  module _ (level : ℤ) where
+    pub roster-back : {k : ℕ} → rack_number S bs ≡ k → k ≢ 0 → record { number = k; value = 0 } ≡ roster_query S bs level
+    unfolding roster_query
+    roster-back e d =
+        (λ i. record { number = sym e i; value = 0 }) ∙ sym (rw (eqb_no (rack_number S bs) 0 (λ z. d (sym e ∙ z)), roster_query) refl)
+
+    pub roster-is : {m : ℕ} → rack_number S bs ≡ 0 → m ≡ count (λ v. at_level level (rank_at bs v)) (size_at bs)
+        → record { number = 0; value = m } ≡ roster_query S bs level
+    unfolding roster_query
+    roster-is e f = (λ i. record { number = 0; value = f i }) ∙ sym (rw (e, roster_query) refl)
 
 -- a number of boards that a rack has not room for, and one that it has
 pub few-bad : (S : Shape) (n : ℕ) → n ≡ 0 → size_good S n ≡ false

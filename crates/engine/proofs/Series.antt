@@ -20,16 +20,7 @@ use Rattle.engine.specs.Series.{CallMade, Series, asked, tellings, left, gave, R
 -- a call that meets the contract gave what the definition gives
 gave-is : (S : Shape) (bs : List ℕ) (d : CallMade) → ChangeIs S bs d.change d.answer d.after → change_bytes S bs d.change ≡ gave S bs d
 unfolding gave
-gave-is S bs d h = λ i. record {
-  answer = record {
-    number = sym h.answers.number i;
-    draws = sym h.answers.draws i;
-    falls = sym h.answers.falls i;
-    pairs = sym h.answers.pairs i;
-  };
-  rack = sym h.leaves i;
-  news = (change_bytes S bs d.change).news;
-}
+gave-is S bs d h = λ i. record { answer = sym h.answers i; rack = sym h.leaves i; news = (change_bytes S bs d.change).news }
 
 -- a series that meets the contract call by call is one of the definition's
 kept : (S : Shape) (l : Ledger) (bs : List ℕ) (ds : List CallMade) → Series S bs ds → Demand S l bs (asked ds) → SeriesDemand S l bs ds

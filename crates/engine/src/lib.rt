@@ -2,245 +2,171 @@
 // with the first number that fits, and then every byte stays. Each contract names the definition that leaves one outcome.
 #![tactic(auto)]
 
-ghost use Rattle.std.specs.Prelude.{◌≡◌, ℕ, ◌≤◌, eqb, pos};
-ghost use Rattle.std.proofs.Math.IntN.{pred_ℤ};
+ghost use Rattle.std.specs.Prelude.{◌≡◌};
 ghost use Rattle.model.specs.Shape.{low};
-ghost use Rattle.model.specs.State.{low_with, low_kind};
-ghost use Rattle.model.specs.Calls.{rack_number, make_number, made, audit as audit_of, one_number, two_number, level_query, mate_query, linked_query, at_level, roster_query};
+ghost use Rattle.model.specs.Bytes.{size_at};
+ghost use Rattle.model.specs.State.{low_kind};
+ghost use Rattle.model.specs.Sound.{sound as sound_of};
+ghost use Rattle.model.specs.Calls.{make_number, made, audit as audit_of, level_query, mate_query, linked_query, roster_query};
+ghost use Rattle.calls.specs.Terms.{outcome, kind_with};
 ghost use Rattle.changes.specs.Sounded.{brought};
-ghost use Rattle.engine.specs.Answers.{ChangeIs, AuditIs, LevelIs, QueryIs};
+ghost use Rattle.engine.specs.Answers.{Ranks, Sizes, SoundRack, Names, ChangeIs, AuditIs, LevelIs, QueryIs, sound_number, other_number};
 
-use changes::Answer;
+use calls::{Figures, Refusal, SHORT, Settings};
+use layout::shape::{LEVELS, MOST, Rack};
 
-// "the audit 0 and yes or no"
-#[derive(Clone, Copy)]
-pub struct AuditAnswer {
-    pub number: u32,
-    pub yes: bool,
-}
-
-// "a query 0 and the level"
-#[derive(Clone, Copy)]
-pub struct LevelAnswer {
-    pub number: u32,
-    pub level: i32,
-}
-
-// "a query 0 and [..] the mate (65,535 if idle), or 1 for linked and 0 for not linked"; W-205: "a query returns the number of boards at a level"
-#[derive(Clone, Copy)]
-pub struct QueryAnswer {
-    pub number: u32,
-    pub value: u32,
-}
-
-// 1 or 6, or 0 if neither fits.
-fn rack_number(rack: &[u8]) -> u32
-    ensures { result ≡ rack_number low rack.now }
+// "1. The rack buffer isn't 9,992 bytes.", with the length of W-205; otherwise the rack that the bytes are.
+fn sized(bytes: &[u8]) -> Result<&Rack, Refusal>
+    ensures { Sizes low bytes.now result }
 {
-    if !layout::sized(rack) {
-        return 1;
-    }
+    bytes.as_array().ok_or(Refusal::RackLength)
+}
+
+// "6. The rack isn't sound."
+fn check_sound(rack: &Rack) -> Result<(), Refusal>
+    ensures { outcome result ≡ sound_number (sound_of low rack.now) }
+{
     if audit::sound(rack) {
-        return 0;
+        return Ok(());
     }
-    6
+    Err(Refusal::Unsound)
+}
+
+// 1 or 6; otherwise the rack, which is sound.
+fn sound(bytes: &[u8]) -> Result<&Rack, Refusal>
+    ensures { SoundRack low bytes.now result }
+{
+    let rack = sized(bytes)?;
+    check_sound(rack)?;
+    Ok(rack)
 }
 
 // Making with settings: the rack of n boards with no link.
-pub fn make_with(rack: &mut [u8], n: u32, growth: u32, top: u32) -> u32
-    ensures number { result ≡ make_number (low_with growth top) rack.old n }
-    ensures leaves { rack.new ≡ made (low_with growth top) rack.old n }
+pub fn make_with(bytes: &mut [u8], n: u32, settings: Settings) -> Result<(), Refusal>
+    ensures number { outcome result ≡ make_number (kind_with settings) bytes.old n }
+    ensures leaves { bytes.new ≡ made (kind_with settings) bytes.old n }
 {
-    if !layout::sized(rack) {
-        return 1;
-    }
+    let Some(rack) = bytes.as_mut_array() else {
+        return Err(Refusal::RackLength);
+    };
     if n == 0 {
-        return 5;
+        return Err(Refusal::Boards);
     }
-    if layout::shape::MOST < n as usize {
-        return 5;
+    if MOST < n as usize {
+        return Err(Refusal::Boards);
     }
-    if !layout::settings::in_range(growth, top) {
-        return 13;
+    if !layout::settings::in_range(settings.growth, settings.top) {
+        return Err(Refusal::Setting);
     }
-    layout::clear(rack, n as u16, growth as u8, top as u8);
-    0
+    layout::clear(rack, n as u16, settings.growth as u8, settings.top as u8);
+    Ok(())
 }
 
 // The short form of making: "The short form of making gives 4 and 3".
-pub fn make(rack: &mut [u8], n: u32) -> u32
-    ensures number { result ≡ make_number low_kind rack.old n }
-    ensures leaves { rack.new ≡ made low_kind rack.old n }
+pub fn make(bytes: &mut [u8], n: u32) -> Result<(), Refusal>
+    ensures number { outcome result ≡ make_number low_kind bytes.old n }
+    ensures leaves { bytes.new ≡ made low_kind bytes.old n }
 {
-    make_with(
-        rack,
-        n,
-        layout::settings::SHORT_GROWTH,
-        layout::settings::SHORT_TOP,
-    )
+    make_with(bytes, n, SHORT)
 }
 
 // A change: add (code 1) or drop (code 2) the link a-b, with words lent for its draws.
-pub fn change(rack: &mut [u8], code: u32, a: u32, b: u32, words: &[u32]) -> Answer
-    ensures { ChangeIs low rack.old (brought code a b words.now) result rack.new }
+pub fn change(
+    bytes: &mut [u8],
+    code: u32,
+    a: u32,
+    b: u32,
+    words: &[u32],
+) -> Result<Figures, Refusal>
+    ensures { ChangeIs low bytes.old (brought code a b words.now) result bytes.new }
 {
-    let k = rack_number(rack);
-    if k != 0 {
-        return Answer {
-            number: k,
-            draws: 0,
-            falls: 0,
-            pairs: 0,
-        };
-    }
+    let Some(rack) = bytes.as_mut_array() else {
+        return Err(Refusal::RackLength);
+    };
+    check_sound(rack)?;
     changes::change(rack, code, a, b, words)
 }
 
 // The audit.
-pub fn audit(rack: &[u8]) -> AuditAnswer
-    ensures { AuditIs result (audit_of low rack.now) }
+pub fn audit(bytes: &[u8]) -> Result<bool, Refusal>
+    ensures { AuditIs result (audit_of low bytes.now) }
 {
-    if !layout::sized(rack) {
-        return AuditAnswer {
-            number: 1,
-            yes: false,
-        };
-    }
-    AuditAnswer {
-        number: 0,
-        yes: audit::sound(rack),
-    }
+    let rack = sized(bytes)?;
+    Ok(audit::sound(rack))
 }
 
-// 1, 6 or 8 for a query that names one board.
-fn one_number(rack: &[u8], v: u32) -> u32
-    ensures { result ≡ one_number low rack.now v }
+// 1, 6 or 8 for a query that names one board; otherwise the rack.
+fn named(bytes: &[u8], v: u32) -> Result<&Rack, Refusal>
+    ensures { Names low bytes.now v result }
 {
-    let k = rack_number(rack);
-    if k != 0 {
-        return k;
-    }
+    let rack = sound(bytes)?;
     if layout::size(rack) <= v as usize {
-        return 8;
+        return Err(Refusal::NoBoard);
     }
-    0
+    Ok(rack)
 }
 
-// 1, 6, 8 or 9 for a query that names two boards.
-fn two_number(rack: &[u8], v: u32, w: u32) -> u32
-    ensures { result ≡ two_number low rack.now v w }
+// 8 or 9 for the second board that a query names.
+fn check_other(rack: &Rack, v: u32, w: u32) -> Result<(), Refusal>
+    ensures { outcome result ≡ other_number (size_at rack.now) v w }
 {
-    let k = one_number(rack, v);
-    if k != 0 {
-        return k;
-    }
     if layout::size(rack) <= w as usize {
-        return 8;
+        return Err(Refusal::NoBoard);
     }
     if v == w {
-        return 9;
+        return Err(Refusal::SameBoard);
     }
-    0
+    Ok(())
 }
 
-// The level that a rank stands for: one less.
-fn level_of(rank: u8) -> i32
-    ensures { result ≡ pred_ℤ (pos rank) }
+// The level of a board: one less than its rank.
+pub fn level(bytes: &[u8], v: u32) -> Result<i32, Refusal>
+    ensures { LevelIs result (level_query low bytes.now v) }
 {
-    if rank == 0 {
-        return -1;
-    }
-    (rank - 1) as i32
+    let rack = named(bytes, v)?;
+    let rank = layout::rank(rack, v as usize);
+    Ok(i32::from(rank) - 1)
 }
 
-// The level of a board.
-pub fn level(rack: &[u8], v: u32) -> LevelAnswer
-    ensures { LevelIs result (level_query low rack.now v) }
+// The mate of a board, 65,535 if it is idle: a number, as in the definition that the contract names.
+pub fn mate(bytes: &[u8], v: u32) -> Result<u32, Refusal>
+    ensures { QueryIs result (mate_query low bytes.now v) }
 {
-    let k = one_number(rack, v);
-    if k != 0 {
-        return LevelAnswer {
-            number: k,
-            level: 0,
-        };
-    }
-    let level = level_of(layout::rank(rack, v as usize));
-    LevelAnswer { number: 0, level }
+    let rack = named(bytes, v)?;
+    Ok(layout::mate_entry(rack, v as usize) as u32)
 }
 
-// The mate of a board, 65,535 if it is idle.
-pub fn mate(rack: &[u8], v: u32) -> QueryAnswer
-    ensures { QueryIs result (mate_query low rack.now v) }
+// The rank of a level: one more. A level outside -1 to 3 has none.
+fn rank_of(level: i32) -> Option<usize>
+    ensures { Ranks low.levels level result }
 {
-    let k = one_number(rack, v);
-    if k != 0 {
-        return QueryAnswer {
-            number: k,
-            value: 0,
-        };
+    if level == -1 {
+        return Some(0);
     }
-    QueryAnswer {
-        number: 0,
-        value: layout::mate(rack, v as usize) as u32,
+    let above = usize::try_from(level).ok()?;
+    if LEVELS <= above {
+        return None;
     }
-}
-
-// The rank of a level: one more. A level below -1 has none, and gets one that no board has.
-fn rank_of(level: i32) -> usize
-    ensures { (x : ℕ) → x ≤ low.levels → at_level level x ≡ eqb x result }
-{
-    if level < 0 {
-        if level == -1 {
-            return 0;
-        }
-        return layout::shape::LEVELS + 1;
-    }
-    level as usize + 1
+    Some(above + 1)
 }
 
 // The number of boards at a level, 0 for a level that is none.
-pub fn roster(rack: &[u8], level: i32) -> QueryAnswer
-    ensures { QueryIs result (roster_query low rack.now level) }
+pub fn roster(bytes: &[u8], level: i32) -> Result<u32, Refusal>
+    ensures { QueryIs result (roster_query low bytes.now level) }
 {
-    let k = rack_number(rack);
-    if k != 0 {
-        return QueryAnswer {
-            number: k,
-            value: 0,
-        };
-    }
-    let r = rank_of(level);
-    if layout::shape::LEVELS < r {
-        return QueryAnswer {
-            number: 0,
-            value: 0,
-        };
-    }
-    QueryAnswer {
-        number: 0,
-        value: layout::rosters::size(rack, r) as u32,
-    }
+    let rack = sound(bytes)?;
+    let Some(rank) = rank_of(level) else {
+        return Ok(0);
+    };
+    Ok(layout::rosters::size(rack, rank) as u32)
 }
 
-// Whether two boards are linked: 1 or 0.
-pub fn linked(rack: &[u8], v: u32, w: u32) -> QueryAnswer
-    ensures { QueryIs result (linked_query low rack.now v w) }
+// Whether two boards are linked: 1 or 0, as in the definition that the contract names.
+pub fn linked(bytes: &[u8], v: u32, w: u32) -> Result<u32, Refusal>
+    ensures { QueryIs result (linked_query low bytes.now v w) }
 {
-    let k = two_number(rack, v, w);
-    if k != 0 {
-        return QueryAnswer {
-            number: k,
-            value: 0,
-        };
-    }
-    if layout::linked(rack, v as usize, w as usize) {
-        return QueryAnswer {
-            number: 0,
-            value: 1,
-        };
-    }
-    QueryAnswer {
-        number: 0,
-        value: 0,
-    }
+    let rack = named(bytes, v)?;
+    check_other(rack, v, w)?;
+    let there = layout::linked(rack, v as usize, w as usize);
+    Ok(there as u32)
 }

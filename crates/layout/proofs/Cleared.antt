@@ -18,7 +18,7 @@ use Rattle.model.specs.Bytes.{Fields, roster, parts, image, mate_entry, phi_entr
 use Rattle.model.proofs.Tests.{eq?, le?, bool?, T_true, T_false, bool-ext, true-T, eqb_yes, and_intro, and_left, and_right, and_yes}
 use Rattle.model.proofs.Counting.{count_none, sum-eq, sum-zero}
 use Rattle.model.proofs.Limits.{mate_entry-free, phi_entry-le}
-use Rattle.model.proofs.Parts.{total, span, bytes-length, next}
+use Rattle.model.proofs.Parts.{total, span, next}
 use Rattle.bitset.specs.Words.{Rest, stored}
 use Rattle.layout.specs.Setters.{set_num, put, blanked, unset, enrolled}
 use Rattle.layout.proofs.Pieces.{each_next, put-ext, set-part, row_byte-ext}
@@ -138,10 +138,6 @@ module _ (S : Shape) (good : GoodShape S) (n : ℕ) where
   founded =
       ap (λ (l : List ℕ). set_num 2 l 0 n) (sym blank-bytes)
       ∙ set-part 0 all (λ i. n) 0 0 n (omega arith) (omega arith) refl (λ u l d. absurd (omega arith))
-
-  pub enrolled-length : (m : ℕ) → length (enrolled S n m) ≡ rack_length S
-  unfolding enrolled
-  enrolled-length m = bytes-length (put 10 _ (parts (fields_of (empty bare n)))) ∙ unfold fields_of empty in omega (arith, good.spare)
 
   -- who is in the rosters once the vertices below m have entered
   abbrev entry : ℕ → ℕ → ℕ → Bool

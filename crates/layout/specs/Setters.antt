@@ -1,9 +1,9 @@
 -- Bytes with one field of the rack set. Callers use the laws of proofs/Images.antt, and need no offset. Assumes nothing.
-use Rattle.std.specs.Prelude.{◌≡◌, ◌&&◌, List, [], ◌∷◌, ◌++◌, ℕ, zero, suc, ◌+◌, ◌-◌, ◌*◌, ◌/◌, ◌%◌, ◌≤◌, ltb, length, set, replicate}
+use Rattle.std.specs.Prelude.{◌≡◌, ◌≢◌, Option, None, Some, ◌&&◌, List, [], ◌∷◌, ◌++◌, ℕ, zero, suc, ◌+◌, ◌-◌, ◌*◌, ◌/◌, ◌%◌, ◌≤◌, ltb, length, set, replicate}
 use Rattle.model.specs.Shape.{Shape, ranks_from, mates_from, phis_from, rows_from, rosters_from, rack_length}
 use Rattle.model.specs.State.{Kind, empty}
 use Rattle.model.specs.Parts.{row_byte, Part, numbers, by_rows, bytes_of}
-use Rattle.model.specs.Bytes.{half, rank_at, parts, roster, fields_of}
+use Rattle.model.specs.Bytes.{half, no_mate, rank_at, parts, roster, fields_of}
 use Rattle.bitset.specs.Row.{inserted, removed}
 use Rattle.bitset.specs.Words.{stored}
 
@@ -15,6 +15,15 @@ Sized S bs = length bs ≡ rack_length S
 pub record NumberAt (S : Shape) (from w i r : ℕ) : Type 0 where
   pub at : r ≡ from + w * i
   pub within : r + w ≤ rack_length S
+
+-- "65,535 if free": the entry for a mate, and whether it is the entry for this one
+abbrev pub entry_of : Option ℕ → ℕ
+entry_of None = no_mate
+entry_of (Some m) = m
+
+abbrev pub MateIs : ℕ → Option ℕ → Type 0
+MateIs entry None = entry ≡ no_mate
+MateIs entry (Some m) = (m ≡ entry) × (m ≢ no_mate)
 
 -- the number in the w bytes at k is x, low byte first
 unfoldable pub set_num : ℕ → List ℕ → ℕ → ℕ → List ℕ

@@ -1,5 +1,6 @@
 // The fields of the rack bytes: each accessor takes the whole buffer and answers or changes one field. Above this crate no offset and no
 // size of the rack is written. The contracts cite the reading of the bytes in `model` and specs/; callers use the laws of proofs/.
+// A vertex, a level and the number of vertices are plain numbers with a bound each, and no types of their own: every function indexes by them.
 #![tactic(auto)]
 
 ghost use Rattle.std.specs.Prelude.{◌≡◌, ◌||◌, ◌<◌, ◌≤◌, ◌+◌, ◌*◌, length, replicate};
@@ -8,8 +9,8 @@ ghost use Rattle.model.specs.State.{low_with, empty};
 ghost use Rattle.model.specs.Counting.{sum, count};
 ghost use Rattle.bitset.specs.Row.{member};
 ghost use Rattle.model.specs.Bytes.{size_at, edges_at, rank_at, mate_at, phi_at, owns_at, write};
-ghost use Rattle.model.specs.Calls.{sized as sized_of};
-ghost use Rattle.layout.specs.Setters.{Sized, set_edges, set_rank, set_mate, set_phi, own as owned, disown as disowned, blanked, enrolled};
+ghost use Rattle.model.specs.Parts.{num_at};
+ghost use Rattle.layout.specs.Setters.{entry_of, MateIs, set_num, set_edges, set_rank, set_mate, set_phi, own as owned, disown as disowned, blanked, enrolled};
 ghost use Rattle.layout.specs.Rows.{degree_at, NthOwned};
 
 pub mod rosters;
@@ -19,58 +20,58 @@ pub mod unused;
 pub mod walk;
 pub mod words;
 
+use shape::Rack;
+
 // The entry for the mate of a free vertex.
 pub const NO_MATE: u16 = 65535;
 
-// Two bytes as a number, low byte first. Taken as parameters the bytes have their range, so nothing is left to prove.
-fn two_bytes(lo: u8, hi: u8) -> u16
-    ensures { result ≡ lo + 256 * hi }
+// The number in the two bytes from `at` on, low byte first.
+#[tactic(auto, unfolding(model::specs::Parts::num_at))]
+fn number_at(rack: &Rack, at: usize) -> u16
+    requires { at + 2 ≤ rack_length low }
+    ensures { result ≡ num_at 2 rack.now at }
 {
-    lo as u16 + 256 * (hi as u16)
+    u16::from_le_bytes([rack[at], rack[at + 1]])
 }
 
-// Whether the bytes are as many as a rack has.
-pub fn sized(rack: &[u8]) -> bool
-    ensures { result ≡ sized_of low rack.now }
+// Sets the number in the two bytes from `at` on.
+#[tactic(auto, unfolding(crate::specs::Setters::set_num))]
+fn set_number(rack: &mut Rack, at: usize, x: u16)
+    requires { at + 2 ≤ rack_length low }
+    ensures { rack.new ≡ set_num 2 rack.old at x }
 {
-    rack.len() == shape::RACK_BYTES
-}
-
-// Places for vertices, as many as a rack has at most.
-pub fn places() -> [u16; shape::MOST]
-    ensures { length result ≡ low.most }
-{
-    [0u16; shape::MOST]
+    let [first, second] = x.to_le_bytes();
+    rack[at] = first;
+    rack[at + 1] = second;
 }
 
 // The number of vertices.
-pub fn size(rack: &[u8]) -> usize
-    requires { Sized low rack.now }
+#[tactic(auto, unfolding(model::specs::Bytes::size_at, model::specs::Parts::num_at))]
+pub fn size(rack: &Rack) -> usize
     ensures { result ≡ size_at rack.now }
 {
-    two_bytes(rack[shape::SIZE], rack[shape::SIZE + 1]) as usize
+    number_at(rack, shape::SIZE) as usize
 }
 
 // The number of edges.
-pub fn edges(rack: &[u8]) -> u16
-    requires { Sized low rack.now }
+#[tactic(auto, unfolding(model::specs::Bytes::edges_at, model::specs::Parts::num_at))]
+pub fn edges(rack: &Rack) -> u16
     ensures { result ≡ edges_at low rack.now }
 {
-    two_bytes(rack[shape::EDGES], rack[shape::EDGES + 1])
+    number_at(rack, shape::EDGES)
 }
 
 // Sets the number of edges.
-pub fn set_edges(rack: &mut [u8], x: u16)
-    requires { Sized low rack.old }
+#[tactic(auto, unfolding(crate::specs::Setters::set_edges, crate::specs::Setters::set_num))]
+pub fn set_edges(rack: &mut Rack, x: u16)
     ensures { rack.new ≡ set_edges low rack.old x }
 {
-    rack[shape::EDGES] = (x % 256) as u8;
-    rack[shape::EDGES + 1] = (x / 256) as u8;
+    set_number(rack, shape::EDGES, x);
 }
 
 // The rank of vertex v: its level plus 1.
-pub fn rank(rack: &[u8], v: usize) -> u8
-    requires sized { Sized low rack.now }
+#[tactic(auto, unfolding(model::specs::Bytes::rank_at))]
+pub fn rank(rack: &Rack, v: usize) -> u8
     requires v_lt_most { v < low.most }
     ensures { result ≡ rank_at rack.now v }
 {
@@ -78,8 +79,7 @@ pub fn rank(rack: &[u8], v: usize) -> u8
 }
 
 // Sets the rank of vertex v, which passes from the roster of its old rank to that of the new one.
-pub fn set_rank(rack: &mut [u8], v: usize, x: u8)
-    requires sized { Sized low rack.old }
+pub fn set_rank(rack: &mut Rack, v: usize, x: u8)
     requires v_lt_most { (v < low.most) × (rank_at rack.old v ≤ low.levels) × (x ≤ low.levels) }
     ensures { rack.new ≡ set_rank low rack.old v x }
 {
@@ -89,30 +89,37 @@ pub fn set_rank(rack: &mut [u8], v: usize, x: u8)
     rack[shape::rank_at(v)] = x;
 }
 
-// The mate of vertex v, 65,535 if it is free.
-pub fn mate(rack: &[u8], v: usize) -> u16
-    requires sized { Sized low rack.now }
+// The mate of vertex v, if it is not free.
+pub fn mate(rack: &Rack, v: usize) -> Option<u16>
+    requires v_lt_most { v < low.most }
+    ensures { MateIs (mate_at low rack.now v) result }
+{
+    let entry = mate_entry(rack, v);
+    if entry == NO_MATE { None } else { Some(entry) }
+}
+
+// The entry for the mate of vertex v, 65,535 if it is free.
+#[tactic(auto, unfolding(model::specs::Bytes::mate_at))]
+pub fn mate_entry(rack: &Rack, v: usize) -> u16
     requires v_lt_most { v < low.most }
     ensures { result ≡ mate_at low rack.now v }
 {
-    let at = shape::mate_at(v);
-    two_bytes(rack[at], rack[at + 1])
+    number_at(rack, shape::mate_at(v))
 }
 
-// Sets the entry for the mate of vertex v.
-pub fn set_mate(rack: &mut [u8], v: usize, x: u16)
-    requires sized { Sized low rack.old }
+// Sets the mate of vertex v, which is free if there is none.
+#[tactic(auto, unfolding(crate::specs::Setters::set_mate))]
+pub fn set_mate(rack: &mut Rack, v: usize, mate: Option<u16>)
     requires v_lt_most { v < low.most }
-    ensures { rack.new ≡ set_mate low rack.old v x }
+    ensures { rack.new ≡ set_mate low rack.old v (entry_of mate) }
 {
-    let at = shape::mate_at(v);
-    rack[at] = (x % 256) as u8;
-    rack[at + 1] = (x / 256) as u8;
+    let entry = mate.unwrap_or(NO_MATE);
+    set_number(rack, shape::mate_at(v), entry);
 }
 
 // The count of vertex v at j.
-pub fn phi(rack: &[u8], v: usize, j: usize) -> u8
-    requires sized { Sized low rack.now }
+#[tactic(auto, unfolding(model::specs::Bytes::phi_at, model::specs::Parts::num_at))]
+pub fn phi(rack: &Rack, v: usize, j: usize) -> u8
     requires v_lt_most { v < low.most }
     requires j_lt_levels { j < low.levels }
     ensures { result ≡ phi_at low rack.now v j }
@@ -121,8 +128,8 @@ pub fn phi(rack: &[u8], v: usize, j: usize) -> u8
 }
 
 // Sets the count of vertex v at j.
-pub fn set_phi(rack: &mut [u8], v: usize, j: usize, x: u8)
-    requires sized { Sized low rack.old }
+#[tactic(auto, unfolding(crate::specs::Setters::set_phi, crate::specs::Setters::set_num))]
+pub fn set_phi(rack: &mut Rack, v: usize, j: usize, x: u8)
     requires v_lt_most { v < low.most }
     requires j_lt_levels { j < low.levels }
     ensures { rack.new ≡ set_phi low rack.old v j x }
@@ -131,8 +138,7 @@ pub fn set_phi(rack: &mut [u8], v: usize, j: usize, x: u8)
 }
 
 // Whether vertex v owns the edge v-w. As a place of its row, w's byte and bit stay the same from row to row.
-pub fn owns(rack: &[u8], v: usize, w: usize) -> bool
-    requires sized { Sized low rack.now }
+pub fn owns(rack: &Rack, v: usize, w: usize) -> bool
     requires v_lt_most { v < low.most }
     requires w_lt_most { w < low.most }
     ensures { result ≡ owns_at low rack.now v w }
@@ -142,21 +148,16 @@ pub fn owns(rack: &[u8], v: usize, w: usize) -> bool
 }
 
 // Whether there is an edge v-w: one of its ends owns it.
-pub fn linked(rack: &[u8], v: usize, w: usize) -> bool
-    requires sized { Sized low rack.now }
+pub fn linked(rack: &Rack, v: usize, w: usize) -> bool
     requires v_lt_most { v < low.most }
     requires w_lt_most { w < low.most }
     ensures { result ≡ owns_at low rack.now v w || owns_at low rack.now w v }
 {
-    if owns(rack, v, w) {
-        return true;
-    }
-    owns(rack, w, v)
+    owns(rack, v, w) || owns(rack, w, v)
 }
 
 // v owns the edge v-w from now on. As for `owns`, w is a place of v's row, and its byte and bit stay the same from row to row.
-pub fn own(rack: &mut [u8], v: usize, w: usize)
-    requires sized { Sized low rack.old }
+pub fn own(rack: &mut Rack, v: usize, w: usize)
     requires v_lt_most { v < low.most }
     requires w_lt_most { w < low.most }
     ensures { rack.new ≡ owned low rack.old v w }
@@ -165,8 +166,7 @@ pub fn own(rack: &mut [u8], v: usize, w: usize)
 }
 
 // v no longer owns the edge v-w.
-pub fn disown(rack: &mut [u8], v: usize, w: usize)
-    requires sized { Sized low rack.old }
+pub fn disown(rack: &mut Rack, v: usize, w: usize)
     requires v_lt_most { v < low.most }
     requires w_lt_most { w < low.most }
     ensures { rack.new ≡ disowned low rack.old v w }
@@ -175,8 +175,7 @@ pub fn disown(rack: &mut [u8], v: usize, w: usize)
 }
 
 // How many places are in the row that begins at byte `at`, in two halves: each is few enough to be summed in a byte.
-fn size_of_row(rack: &[u8], at: usize) -> usize
-    requires sized { Sized low rack.now }
+fn size_of_row(rack: &Rack, at: usize) -> usize
     requires row_bound { at + low.row ≤ rack_length low }
     ensures { result ≡ count (λ w. member rack.now (8 * at + w)) low.most }
 {
@@ -186,8 +185,7 @@ fn size_of_row(rack: &[u8], at: usize) -> usize
 }
 
 // How many edges vertex v owns.
-pub fn degree(rack: &[u8], v: usize) -> usize
-    requires sized { Sized low rack.now }
+pub fn degree(rack: &Rack, v: usize) -> usize
     requires v_lt_most { v < low.most }
     ensures { result ≡ degree_at low rack.now v }
 {
@@ -195,8 +193,7 @@ pub fn degree(rack: &[u8], v: usize) -> usize
 }
 
 // The k-th vertex, from 0, to which v owns an edge.
-pub fn nth_owned(rack: &[u8], v: usize, k: usize) -> usize
-    requires sized { Sized low rack.now }
+pub fn nth_owned(rack: &Rack, v: usize, k: usize) -> usize
     requires v_lt_most { v < low.most }
     requires k_bound { k < degree_at low rack.now v }
     ensures { NthOwned low rack.now v k result }
@@ -206,8 +203,7 @@ pub fn nth_owned(rack: &[u8], v: usize, k: usize) -> usize
 }
 
 // How many edges the vertices below n own together. Their rows stand one after the other, so that they are counted as one.
-pub fn degrees(rack: &[u8], n: usize) -> usize
-    requires sized { Sized low rack.now }
+pub fn degrees(rack: &Rack, n: usize) -> usize
     requires n_le_most { n ≤ low.most }
     ensures { result ≡ sum (degree_at low rack.now) n }
 {
@@ -215,40 +211,25 @@ pub fn degrees(rack: &[u8], n: usize) -> usize
     bitset::size_by_words(&rack[shape::ROWS..end])
 }
 
-// Every byte of a part set to x.
-fn fill(part: &mut [u8], x: u8)
-    ensures { part.new ≡ replicate (length part.old) x }
-{
-    let mut i = 0;
-    while i < part.len() {
-        part[i] = x;
-        i += 1;
-    }
-}
-
 // All bytes zero but for those of the mates: no mate is named.
-fn blank(rack: &mut [u8])
-    requires { Sized low rack.old }
+fn blank(rack: &mut Rack)
     ensures { rack.new ≡ blanked low }
 {
-    fill(rack, 0);
-    fill(&mut rack[shape::MATES..shape::PHIS], 255);
+    rack.fill(0);
+    rack[shape::MATES..shape::PHIS].fill(255);
 }
 
 // The rack of n vertices with no edge, but for its rosters, which are empty, and its settings.
-fn found(rack: &mut [u8], n: u16)
-    requires sized { Sized low rack.old }
+fn found(rack: &mut Rack, n: u16)
     requires n_le_most { n ≤ low.most }
     ensures { rack.new ≡ enrolled low n 0 }
 {
     blank(rack);
-    rack[shape::SIZE] = (n % 256) as u8;
-    rack[shape::SIZE + 1] = (n / 256) as u8;
+    set_number(rack, shape::SIZE, n);
 }
 
 // The rack of n vertices with no edge and with these settings.
-pub fn clear(rack: &mut [u8], n: u16, growth: u8, top: u8)
-    requires sized { Sized low rack.old }
+pub fn clear(rack: &mut Rack, n: u16, growth: u8, top: u8)
     requires n_le_most { n ≤ low.most }
     ensures { rack.new ≡ write (empty (low_with growth top) n) }
 {

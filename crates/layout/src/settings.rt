@@ -5,19 +5,14 @@ ghost use Rattle.model.specs.Counting.{bit};
 ghost use Rattle.model.specs.State.{low_with, InRange};
 ghost use Rattle.model.specs.Bytes.{growth_at, top_at, kind_at};
 ghost use Rattle.model.specs.Sound.{settings_good};
-ghost use Rattle.layout.specs.Setters.{Sized};
 
 use crate::shape;
+use crate::shape::Rack;
 
 // "growth g from 2 to 8"
 pub const LEAST_GROWTH: usize = 2;
 
 pub const MOST_GROWTH: usize = 8;
-
-// "The short form of making gives 4 and 3"
-pub const SHORT_GROWTH: u32 = 4;
-
-pub const SHORT_TOP: u32 = 3;
 
 // "The threshold at j is g to the power j": a row for each growth, from the least on.
 const THRESHOLDS: [[u16; shape::LEVELS]; MOST_GROWTH + 1 - LEAST_GROWTH] = [
@@ -31,24 +26,23 @@ const THRESHOLDS: [[u16; shape::LEVELS]; MOST_GROWTH + 1 - LEAST_GROWTH] = [
 ];
 
 // The growth.
-pub fn growth(rack: &[u8]) -> u8
-    requires { Sized low rack.now }
+#[tactic(auto, unfolding(model::specs::Bytes::growth_at))]
+pub fn growth(rack: &Rack) -> u8
     ensures { result ≡ growth_at rack.now }
 {
     rack[shape::GROWTH]
 }
 
 // The highest level.
-pub fn top(rack: &[u8]) -> u8
-    requires { Sized low rack.now }
+#[tactic(auto, unfolding(model::specs::Bytes::top_at))]
+pub fn top(rack: &Rack) -> u8
     ensures { result ≡ top_at rack.now }
 {
     rack[shape::TOP]
 }
 
 // Sets both.
-pub fn put(rack: &mut [u8], growth: u8, top: u8)
-    requires { Sized low rack.old }
+pub fn put(rack: &mut Rack, growth: u8, top: u8)
     ensures { rack.new ≡ set (set rack.old 4 growth) 5 top }
 {
     rack[shape::GROWTH] = growth;
@@ -56,8 +50,7 @@ pub fn put(rack: &mut [u8], growth: u8, top: u8)
 }
 
 // The threshold of level j.
-pub fn threshold(rack: &[u8], j: usize) -> u16
-    requires sized { Sized low rack.now }
+pub fn threshold(rack: &Rack, j: usize) -> u16
     requires in_range { InRange (kind_at low rack.now) }
     requires j_lt_levels { j < low.levels }
     ensures { result ≡ growth_at rack.now ^ j }
@@ -66,8 +59,7 @@ pub fn threshold(rack: &[u8], j: usize) -> u16
 }
 
 // All thresholds of the rack's growth.
-pub fn thresholds(rack: &[u8]) -> [u16; shape::LEVELS]
-    requires sized { Sized low rack.now }
+pub fn thresholds(rack: &Rack) -> [u16; shape::LEVELS]
     requires in_range { InRange (kind_at low rack.now) }
     ensures { (length result ≡ low.levels) × ((j : ℕ) → j < low.levels → get_or result j 0 ≡ growth_at rack.now ^ j) }
 {
@@ -83,8 +75,7 @@ const STANDING: [[u16; shape::LEVELS]; shape::LEVELS] = [
 ];
 
 // Which levels the rack has.
-pub fn standing(rack: &[u8]) -> [u16; shape::LEVELS]
-    requires sized { Sized low rack.now }
+pub fn standing(rack: &Rack) -> [u16; shape::LEVELS]
     requires in_range { InRange (kind_at low rack.now) }
     ensures { (length result ≡ low.levels) × ((j : ℕ) → j < low.levels → get_or result j 0 ≡ bit (leb j (top_at rack.now))) }
 {
@@ -92,14 +83,9 @@ pub fn standing(rack: &[u8]) -> [u16; shape::LEVELS]
 }
 
 // Whether settings are in their ranges.
+#[tactic(auto, unfolding(model::specs::Sound::settings_good))]
 pub fn in_range(growth: u32, top: u32) -> bool
     ensures { result ≡ settings_good (low_with growth top) }
 {
-    if (growth as usize) < LEAST_GROWTH {
-        return false;
-    }
-    if MOST_GROWTH < growth as usize {
-        return false;
-    }
-    (top as usize) < shape::LEVELS
+    (LEAST_GROWTH..=MOST_GROWTH).contains(&(growth as usize)) && (top as usize) < shape::LEVELS
 }

@@ -10,6 +10,11 @@ pub const LEVELS: usize = 4;
 
 pub const ROW: usize = 32;
 
+// The places of a word, and the words of a row or a roster.
+pub const WORD: usize = 64;
+
+pub const WORDS: usize = MOST / WORD;
+
 // Where the parts begin: n, the number of edges, the settings, the spare bytes, the ranks, the mates, the counts, the rows, the rosters.
 pub const SIZE: usize = 0;
 
@@ -33,6 +38,9 @@ pub const ROSTERS: usize = ROWS + MOST * ROW;
 
 // The bytes of a rack.
 pub const RACK_BYTES: usize = ROSTERS + (LEVELS + 1) * ROW;
+
+// The bytes of a rack, as many as it has.
+pub type Rack = [u8; RACK_BYTES];
 
 // Where the rank of vertex v stands.
 pub fn rank_at(v: usize) -> usize

@@ -184,7 +184,8 @@ word-then : {t : List ℕ} (w : ℕ) (v rest : List ℕ) → Fit w → t ≡ dec
 word-then w v rest fit e = record { written = e; ends = words-no-digit v rest; small = fit }
 
 -- where a space stands, a word stands after it
-pub words-word : (v rest t : List ℕ) → All Fit v → 32 ∷ t ≡ words_text v ++ rest → (w : ℕ) × (v' : List ℕ) × (v ≡ w ∷ v') × NumberThen t w (words_text v' ++ rest)
+pub words-word : (v rest t : List ℕ) → All Fit v → 32 ∷ t ≡ words_text v ++ rest
+    → (w : ℕ) × (v' : List ℕ) × (v ≡ w ∷ v') × NumberThen t w (words_text v' ++ rest)
 unfolding texts word_text words_text
 words-word [] rest t s e = let z : ◌≡◌ {A = ℕ} 32 41 = cc in absurd (omega arith)
 words-word (w ∷ v) rest t s e = (w, v, refl, word-then w v rest s.0 (tail (e ∙ words-cons w v rest)))

@@ -3,6 +3,7 @@
 --     No P t           t starts with no such piece.        Sole P     t starts with at most one: its value and what follows are given
 --     not-.., after    which piece, or part of one, doesn't stand there, after those that do
 --     Form             the pieces that a printed value is made of.        absent, found, form-sole     no such value, one, and at most one
+--     first_absent, second_absent    no such value, since the first of two pieces doesn't stand there, or the second after it
 -- Assumes nothing.
 use Prim.Native.Nat.{ℕ, ◌≤◌}
 use mathlib.Core.Path.{◌≡◌, sym, ap, ◌∙◌, subst}
@@ -108,3 +109,13 @@ module _ {A B : Type 0} {print : A → List ℕ} {Good : A → Type 0} {P : Piec
         let r = s.same (f.split x h.good h.stands) (f.split y k.good k.stands) in
         (sym (back x) ∙ ap value r.0 ∙ back y, r.1);
   }
+
+-- A value of two pieces is absent where the first of them doesn't stand, or the second after it.
+
+module _ {A B C : Type 0} {print : A → List ℕ} {Good : A → Type 0} {P : Piece B} {Q : Piece C} {values : A → B × C}
+    (f : Form print Good (Then P Q) values) where
+  pub first_absent : {t : List ℕ} → No P t → (x : A) (u : List ℕ) → Good x → t ≡ print x ++ u → ⊥
+  first_absent h = absent f (not_first h)
+
+  pub second_absent : {t u : List ℕ} {y : B} → Sole P → P t y u → No Q u → (x : A) (v : List ℕ) → Good x → t ≡ print x ++ v → ⊥
+  second_absent s p h = absent f (after s p h)

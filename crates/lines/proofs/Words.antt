@@ -3,6 +3,7 @@
 use Prim.Native.Nat.{ℕ, ◌+◌, ◌≤◌, ◌<◌}
 use mathlib.Core.Path.{◌≡◌, refl, sym, ap, ◌∙◌, subst}
 use mathlib.Core.Logic.{inl, inr}
+use Rattle.std.specs.Prelude.{Option, None, Some}
 use mathlib.Core.List.{List, [], ◌∷◌, ◌++◌, append_assoc}
 use native.Mathlib.Omega.{arith}
 use native.Mathlib.Numerals.{add-one}
@@ -19,8 +20,6 @@ use Rattle.text.proofs.Standing.{drop_more, front-of-drop}
 use Rattle.text.proofs.Texts.{texts-snoc, all_snoc, all-last}
 use Rattle.lines.specs.Pieces.{words_text, Fit, FitWords}
 use Rattle.lines.specs.Clauses.{LineEndAt, WordsAt}
-use Rattle.lines.specs.declared.WordsRead.{WordsRead}
-use Rattle.lines.specs.declared.WordsRead.TheVariants.{Words, NoWords}
 use Rattle.lines.proofs.Laws.{words-word, words-end}
 
 -- the words `got` stand from `at` up to i, and every text of words that stands at `at` starts with them
@@ -97,14 +96,16 @@ module _ {s : List ℕ} {at : ℕ} {got : List ℕ} {i : ℕ} (p : GotWords s at
       no_end rest (words-end v rest (drop i s) (not-space s i other) f)
 
 -- the end was looked for where no word can stand, or none more
-pub got-end : {s : List ℕ} {at i : ℕ} (words : List ℕ) (count : ℕ) (r : WordsRead) → GotWords s at (take count words) i → count ≤ 128 → count ≤ length words
-    → (get_or s i 0 ≡ 32 → count ≡ 128) → LineEndAt s i count r → WordsAt s at words r
-got-end {s} {at} words count (Words k next) p few room full (same, found) =
+pub got-end : {s : List ℕ} {at i : ℕ} (words : List ℕ) (count : ℕ) (r : Option (ℕ × ℕ)) → GotWords s at (take count words) i → count ≤ 128
+    → count ≤ length words → (get_or s i 0 ≡ 32 → count ≡ 128) → LineEndAt s i count r → WordsAt s at words r
+got-end {s} {at} words count (Some (k, next)) p few room full (same, found) =
     let l = length-take-le count words room in
-    subst (λ (n : ℕ). WordsAt s at words (Words n next)) (sym same) (few, got-found p next (omega arith) found.0 found.1)
-got-end {s} {i = i} words count NoWords p few room full no_end =
-    let l = length-take-le count words room in
-    elim (eq? (get_or s i 0) 32) [ inl b ↦ let h = full b in got-full p (omega arith) b | inr b ↦ got_other p b no_end ]
+    subst (λ (n : ℕ). WordsAt s at words (Some (n, next))) (sym same) (few, got-found p next (omega arith) found.0 found.1)
+got-end {s} {i = i} words count None p few room full no_end =
+    let l = length-take-le count words room in (
+      tt,
+      elim (eq? (get_or s i 0) 32) [ inl b ↦ let h = full b in got-full p (omega arith) b | inr b ↦ got_other p b no_end ],
+    )
 
 -- a word that is stored after those before
 pub got-stored : {s : List ℕ} {at i w : ℕ} (words : List ℕ) (count next : ℕ) → GotWords s at (take count words) i → count < length words

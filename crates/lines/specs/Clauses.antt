@@ -1,78 +1,66 @@
--- What the readers of `src/` must answer, by cases on the answer. Assumes nothing.
-use Rattle.std.specs.Prelude.{◌≡◌, List, ℕ, ◌+◌, ◌≤◌, get_or, take}
+-- What the readers of `src/` must answer. Assumes nothing.
+use Rattle.std.specs.Prelude.{◌≡◌, List, ℕ, ◌+◌, ◌≤◌, get_or, take, Option, None, Some, IfSome, Result, Ok, Err}
 use Rattle.model.specs.Text.{bytes}
+use Rattle.model.specs.Moves.{Ends as EndsOf}
 use Rattle.model.specs.Change.{Change}
-use Rattle.model.specs.Trace.{Settings as SettingsOf, short, long, SettingsFit, code_text, change_line, LineChange}
+use Rattle.model.specs.Trace.{Settings as SettingsOf, SettingsFit, code_text, change_line, LineChange}
+use Rattle.calls.specs.declared.Kind.{Kind}
+use Rattle.calls.specs.declared.Settings.{Settings}
+use Rattle.calls.specs.Terms.{code_of, named_by}
 use Rattle.text.specs.Number.{NumberAt}
 use Rattle.text.specs.Literal.{LiteralAt}
-use Rattle.text.specs.Reading.{Found, Absent}
-use Rattle.text.specs.declared.Number.TheVariants.{Value, NoNumber}
-use Rattle.text.specs.declared.Literal.TheVariants.{Next, NoLiteral}
+use Rattle.text.specs.Reading.{ReadAt}
 use Rattle.lines.specs.Pieces.{first_line, FitFirst, rack_end, long_end, FitLong, IsCode, ends_text, FitEnds, words_text, FitWords}
-use Rattle.lines.specs.declared.Settings.{Settings}
-use Rattle.lines.specs.declared.Settings.TheVariants.{Short, Long}
-use Rattle.lines.specs.declared.LongRead.{LongRead}
-use Rattle.lines.specs.declared.LongRead.TheVariants.{Named, NotNamed}
-use Rattle.lines.specs.declared.RackRead.{RackRead}
-use Rattle.lines.specs.declared.RackRead.TheVariants.{Rack, NoRack}
-use Rattle.lines.specs.declared.CodeRead.{CodeRead}
-use Rattle.lines.specs.declared.CodeRead.TheVariants.{Code, NoCode}
-use Rattle.lines.specs.declared.EndsRead.{EndsRead}
-use Rattle.lines.specs.declared.EndsRead.TheVariants.{Ends, NoEnds}
-use Rattle.lines.specs.declared.WordRead.{WordRead}
-use Rattle.lines.specs.declared.WordRead.TheVariants.{Word, NoSpace, NoWord}
-use Rattle.lines.specs.declared.WordsRead.{WordsRead}
-use Rattle.lines.specs.declared.WordsRead.TheVariants.{Words, NoWords}
-use Rattle.lines.specs.declared.ChangeRead.{ChangeRead}
-use Rattle.lines.specs.declared.ChangeRead.TheVariants.{Line, NoLine}
-
--- the settings that the code's name
-abbrev pub named_by : Settings → SettingsOf
-named_by Short = short
-named_by (Long growth top) = long growth top
+use Rattle.lines.specs.declared.FirstLine.{FirstLine}
+use Rattle.lines.specs.declared.Ends.{Ends}
+use Rattle.lines.specs.declared.Line.{Line}
+use Rattle.lines.specs.declared.Missing.{Missing}
+use Rattle.lines.specs.declared.Missing.TheVariants.{Space, Number}
 
 -- the end of a long line 1, of any line 1 after its N, and line 1 as a whole: each is found there, or absent
-abbrev pub LongAt : List ℕ → ℕ → LongRead → Type 0
-LongAt s at (Named growth top next) = Found long_end FitLong s at (growth, top) next
-LongAt s at NotNamed = Absent long_end FitLong s at
+abbrev pub pair_of : Settings → ℕ × ℕ
+pair_of x = (x.growth, x.top)
 
-abbrev pub RackEndAt : List ℕ → ℕ → ℕ → RackRead → Type 0
-RackEndAt s at n (Rack m settings next) = (m ≡ n) × Found rack_end SettingsFit s at (named_by settings) next
-RackEndAt s at n NoRack = Absent rack_end SettingsFit s at
+abbrev pub LongAt : List ℕ → ℕ → Option (Settings × ℕ) → Type 0
+LongAt = ReadAt long_end FitLong pair_of
 
-abbrev pub RackAt : List ℕ → ℕ → RackRead → Type 0
-RackAt s at (Rack n settings next) = Found first_line FitFirst s at (n, named_by settings) next
-RackAt s at NoRack = Absent first_line FitFirst s at
+abbrev pub RackEndAt : List ℕ → ℕ → Option (Option Settings × ℕ) → Type 0
+RackEndAt = ReadAt rack_end SettingsFit named_by
 
--- a change's code, its vertices and its words, and its line as a whole
-abbrev pub CodeAt : List ℕ → ℕ → CodeRead → Type 0
-CodeAt s at (Code code next) = Found code_text IsCode s at code next
-CodeAt s at NoCode = Absent code_text IsCode s at
+abbrev pub first_of : FirstLine → ℕ × SettingsOf
+first_of x = (x.n, named_by x.settings)
 
-abbrev pub EndsAt : List ℕ → ℕ → EndsRead → Type 0
-EndsAt s at (Ends a b next) = Found ends_text FitEnds s at (record { a = a; b = b }) next
-EndsAt s at NoEnds = Absent ends_text FitEnds s at
+abbrev pub RackAt : List ℕ → ℕ → Option (FirstLine × ℕ) → Type 0
+RackAt = ReadAt first_line FitFirst first_of
+
+-- a change's kind and its vertices
+abbrev pub CodeAt : List ℕ → ℕ → Option (Kind × ℕ) → Type 0
+CodeAt = ReadAt code_text IsCode code_of
+
+abbrev pub ends_of : Ends → EndsOf
+ends_of x = record { a = x.a; b = x.b }
+
+abbrev pub EndsAt : List ℕ → ℕ → Option (Ends × ℕ) → Type 0
+EndsAt = ReadAt ends_text FitEnds ends_of
 
 -- the word after the space at `at`; or that no space stands there, or one that no number follows
-abbrev pub WordAt : List ℕ → ℕ → WordRead → Type 0
-WordAt s at (Word w next) = (get_or s at 0 ≡ 32) × NumberAt s (at + 1) (Value w next)
-WordAt s at NoSpace = get_or s at 0 ≡ 32 → ⊥
-WordAt s at NoWord = (get_or s at 0 ≡ 32) × NumberAt s (at + 1) NoNumber
+abbrev pub WordAt : List ℕ → ℕ → Result (ℕ × ℕ) Missing → Type 0
+WordAt s at (Ok (w, next)) = (get_or s at 0 ≡ 32) × NumberAt s (at + 1) (Some (w, next))
+WordAt s at (Err Space) = get_or s at 0 ≡ 32 → ⊥
+WordAt s at (Err Number) = (get_or s at 0 ≡ 32) × NumberAt s (at + 1) None
 
 -- the line's end after count words
-abbrev pub LineEndAt : List ℕ → ℕ → ℕ → WordsRead → Type 0
-LineEndAt s at count (Words k next) = (k ≡ count) × LiteralAt s at (bytes "))\n") (Next next)
-LineEndAt s at count NoWords = LiteralAt s at (bytes "))\n") NoLiteral
+abbrev pub LineEndAt : List ℕ → ℕ → ℕ → Option (ℕ × ℕ) → Type 0
+LineEndAt s at count (Some (k, next)) = (k ≡ count) × LiteralAt s at (bytes "))\n") (Some next)
+LineEndAt s at count None = LiteralAt s at (bytes "))\n") None
 
 -- the words stand in the first count places of `words`
-abbrev pub WordsAt : List ℕ → ℕ → List ℕ → WordsRead → Type 0
-WordsAt s at words (Words count next) = (count ≤ 128) × Found words_text FitWords s at (take count words) next
-WordsAt s at words NoWords = Absent words_text FitWords s at
+abbrev pub WordsAt : List ℕ → ℕ → List ℕ → Option (ℕ × ℕ) → Type 0
+WordsAt s at words read = IfSome read (λ x. x.0 ≤ 128) × ReadAt words_text FitWords (λ count. take count words) s at read
 
 -- the change whose line was read
-abbrev pub change_of : ℕ → ℕ → ℕ → ℕ → List ℕ → Change
-change_of code a b count words = record { code = code; a = a; b = b; words = take count words }
+abbrev pub change_of : List ℕ → Line → Change
+change_of words x = record { code = code_of x.kind; a = x.a; b = x.b; words = take x.count words }
 
-abbrev pub ChangeAt : List ℕ → ℕ → List ℕ → ChangeRead → Type 0
-ChangeAt s at words (Line code a b count next) = (count ≤ 128) × Found change_line LineChange s at (change_of code a b count words) next
-ChangeAt s at words NoLine = Absent change_line LineChange s at
+abbrev pub ChangeAt : List ℕ → ℕ → List ℕ → Option (Line × ℕ) → Type 0
+ChangeAt s at words read = IfSome read (λ x. x.0.count ≤ 128) × ReadAt change_line LineChange (change_of words) s at read

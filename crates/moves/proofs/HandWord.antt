@@ -7,7 +7,6 @@ use Prim.Native.Nat.{ℕ, suc, ◌+◌, ◌-◌, ◌*◌, ◌≤◌, ◌<◌}
 use native.Mathlib.Numerals.{add-one}
 use native.Mathlib.Omega.{arith}
 use lib.Dec.{T, eqb, ltb, lt→ltb}
-use lib.ListN.{length}
 use lib.Bits.{bit_and, bit_xor}
 use lib.Count.{count_trailing_zeros}
 use Rattle.model.specs.Counting.{count}
@@ -17,12 +16,11 @@ use Rattle.model.specs.Moves.{owned_by}
 use Rattle.model.specs.Change.{reown}
 use Rattle.model.proofs.Tests.{le?, bool-ext, and_intro, and_left, and_right, and_yes}
 use Rattle.model.proofs.Counting.{count_none}
-use Rattle.model.proofs.Fields.{image-length}
 use Rattle.theory.proofs.Ownership.{out, back, rest, turned}
 use Rattle.bitset.specs.Words.{Rest}
 use Rattle.bitset.proofs.Words.{First, rest-first, rest_end}
 use Rattle.bitset.proofs.Sets.{rest-and, rest-less, rest-ext}
-use Rattle.layout.specs.Setters.{Sized, own, set_word}
+use Rattle.layout.specs.Setters.{own, set_word}
 use Rattle.moves.specs.Proper.{Proper}
 use Rattle.moves.specs.Handing.{same_level, other_level, in_word, handed_in}
 use Rattle.moves.proofs.Edges.{edge_of, turned-edge}
@@ -90,10 +88,6 @@ module _ {K : Kind} {s : State} (p : Proper K s) (i v k : ℕ) where
   }
 
   module _ {bs : List ℕ} {x : ℕ} (G : Handing s i v k bs x) where
-    pub handing-sized : Sized s.kind.shape bs
-    unfolding owners_of
-    handing-sized = ap length G.bytes ∙ image-length (owners_of s (gains v (going s i v k G.at) s.owns)) p.good
-
     -- the same have gone before place t, where none goes between
     skipped : (t : ℕ) → G.at ≤ t → ((j : ℕ) → G.at ≤ j → j < t → T (goes s i v k j) → ⊥)
         → bs ≡ image (owners_of s (gains v (going s i v k t) s.owns))

@@ -220,3 +220,7 @@ module _ {K : Kind} {s : State} {i u : ℕ} (q : CanRise K s i u) where
           ))
           | inr l ↦ l
         ])) ∙ taken-all)
+
+    -- every rank up to i is done, so nothing is missing
+    pub over-end : i < r → bs ≡ write (took_over i u s)
+    over-end l = over_none (elim (le? 1 missing) [ inl m ↦ absurd (omega (arith, over-rank m)) | inr z ↦ omega arith ])

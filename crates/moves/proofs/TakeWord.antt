@@ -7,7 +7,6 @@ use Prim.Native.Nat.{ℕ, suc, ◌+◌, ◌-◌, ◌*◌, ◌≤◌, ◌<◌}
 use native.Mathlib.Numerals.{add-one}
 use native.Mathlib.Omega.{arith}
 use lib.Dec.{T}
-use lib.ListN.{length}
 use lib.Bits.{bit_and, bit_or}
 use lib.Count.{count_trailing_zeros}
 use Rattle.model.specs.Counting.{count}
@@ -18,11 +17,10 @@ use Rattle.model.specs.Moves.{owned_by}
 use Rattle.model.proofs.Tests.{le?, holds?, bool-ext, T_true, or_cases, or_left, or_right}
 use Rattle.model.proofs.Counting.{bit-yes}
 use Rattle.model.proofs.Prefix.{count-zero, count-suc, count-skip, count-step}
-use Rattle.model.proofs.Fields.{image-length}
 use Rattle.bitset.specs.Words.{Rest}
 use Rattle.bitset.proofs.Words.{First, rest-first, rest_end}
 use Rattle.bitset.proofs.Sets.{rest-or}
-use Rattle.layout.specs.Setters.{Sized, disown, set_word}
+use Rattle.layout.specs.Setters.{disown, set_word}
 use Rattle.moves.specs.Proper.{took_from}
 use Rattle.moves.proofs.Owning.{owners_of, owners-same, owners-write}
 use Rattle.moves.proofs.Taking.{Takes, takes-some, takes-edge, takes_none}
@@ -104,10 +102,6 @@ module _ {K : Kind} {s : State} {u : ℕ} {h : ℕ → Bool} (q : Takes K s u h)
   }
 
   module _ {k missing : ℕ} {bs : List ℕ} {x left : ℕ} (G : TakeWord s u k h missing bs x left) where
-    pub word-sized : Sized of bs
-    unfolding owners_of
-    word-sized = ap length G.bytes ∙ image-length (owners_of s (turning u (among h k 64) (among h k G.at) true s.owns)) q.proper.good
-
     module _ (some : 0 < x) where
       first : First (λ j. h (64 * k + j)) G.at x (count_trailing_zeros 64 x)
       first = rest-first G.rest some

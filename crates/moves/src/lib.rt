@@ -1,5 +1,6 @@
 // The moves of document 01 on the rack's bytes, and their steps. The contract of a move says that the bytes are then the writing of the
-// definition's state, that of a step the same of an image whose counts are half adjusted.
+// definition's state, that of a step the same of an image whose counts are half adjusted. So `Held`, that the bytes are
+// the writing of a proper state, stands in the contracts and is no invariant of a type: in the midst of a move it is not so, and every byte is promised.
 #![tactic(auto)]
 
 ghost use Rattle.std.specs.Prelude.{◌≡◌, ◌≢◌, ℕ, suc, ◌+◌, ◌*◌, ◌<◌, ◌≤◌, T};
@@ -10,35 +11,36 @@ ghost use Rattle.model.specs.Bytes.{top_at, phi_at, image, fields_of, read, writ
 ghost use Rattle.model.specs.Moves.{part as parted, rise as risen, marry as paired, hand_over};
 ghost use Rattle.model.proofs.Facts.{Says};
 ghost use Rattle.theory.specs.Handing.{handed_on};
-ghost use Rattle.layout.specs.Setters.{Sized};
 ghost use Rattle.moves.specs.Proper.{Ordered, Held, ranked, RowBelow};
 ghost use Rattle.moves.specs.Handing.{same_level, other_level, in_word, handed_in};
 ghost use Rattle.moves.specs.Counts.{with_counts, step, CanStep, largest_count, none, recounted, lowered_counts, raised_counts};
 
 mod takeover;
 
+use layout::shape::Rack;
+use layout::walk::Cursor;
+
 // v's pair is parted; a free v stays as it is.
-pub fn part(rack: &mut [u8], v: usize)
+pub fn part(rack: &mut Rack, v: usize)
     requires held { Held low rack.old }
     requires v_bound { v < (read low rack.old).n }
     ensures { rack.new ≡ write (parted v (read low rack.old)) }
 {
-    let m = layout::mate(rack, v);
-    if m == layout::NO_MATE {
+    let Some(m) = layout::mate(rack, v) else {
         return;
-    }
-    layout::set_mate(rack, m as usize, layout::NO_MATE);
-    layout::set_mate(rack, v, layout::NO_MATE);
+    };
+    layout::set_mate(rack, m as usize, None);
+    layout::set_mate(rack, v, None);
 }
 
 // u and y are mates.
-pub fn pair(rack: &mut [u8], u: usize, y: usize)
+pub fn pair(rack: &mut Rack, u: usize, y: usize)
     requires held { Held low rack.old }
     requires u_bound { (u < (read low rack.old).n) × (y < (read low rack.old).n) × (u ≢ y) }
     ensures { rack.new ≡ write (paired u y (read low rack.old)) }
 {
-    layout::set_mate(rack, u, y as u16);
-    layout::set_mate(rack, y, u as u16);
+    layout::set_mate(rack, u, Some(y as u16));
+    layout::set_mate(rack, y, Some(u as u16));
 }
 
 // What a pass over the row of a waiting vertex answers: how many edges it handed on, and how many vertices are below.
@@ -49,7 +51,7 @@ pub struct Split {
 }
 
 // The pass over word k of v's row, with what it came to so far: what goes is also in the roster of v's level, the rest stays.
-fn hand_word(rack: &mut [u8], v: usize, i: usize, k: usize, split: Split) -> Split
+fn hand_word(rack: &mut Rack, v: usize, i: usize, k: usize, split: Split) -> Split
     requires held { Held low rack.old }
     requires v_bound { (v < (read low rack.old).n) × ((read low rack.old).rank v ≡ suc i) × (64 * k < low.most) }
     requires handed_le_most { (split.handed ≤ low.most) × (split.below ≤ low.most) }
@@ -63,11 +65,8 @@ fn hand_word(rack: &mut [u8], v: usize, i: usize, k: usize, split: Split) -> Spl
     }
     let go = row & layout::rosters::word(rack, i + 1, k);
     let stay = row ^ go;
-    let mut x = go;
-    while x != 0 {
-        let w = layout::walk::place(k, x);
+    for w in Cursor::new(k, go) {
         layout::own(rack, w, v);
-        x = x & (x - 1);
     }
     layout::words::set_word(rack, v, k, stay);
     let handed = split.handed + bitset::word_ones(go);
@@ -77,7 +76,7 @@ fn hand_word(rack: &mut [u8], v: usize, i: usize, k: usize, split: Split) -> Spl
 
 // v hands each edge that it owns to a vertex of its own level i to that vertex. W-204: "hand links on and count what is below in one pass over
 // the board's row"; "The pass answers both numbers".
-pub fn hand_over(rack: &mut [u8], v: usize, i: usize) -> Split
+pub fn hand_over(rack: &mut Rack, v: usize, i: usize) -> Split
     requires held { (Held low rack.old) × (Ordered (read low rack.old)) }
     requires v_bound { (v < (read low rack.old).n) × ((read low rack.old).rank v ≡ suc i) }
     ensures rack_after { rack.new ≡ write (hand_over i v (read low rack.old)) }
@@ -89,42 +88,35 @@ pub fn hand_over(rack: &mut [u8], v: usize, i: usize) -> Split
         handed: 0,
         below: 0,
     };
-    let mut k = 0;
-    while 64 * k < n {
+    for k in 0..n.div_ceil(layout::shape::WORD) {
         split = hand_word(rack, v, i, k, split);
-        k += 1;
     }
     split
 }
 
-// One more, or one less.
+// One more, or one less: a flag tells which, as in the definition that the contracts of the steps cite.
 pub fn stepped(x: u16, more: bool) -> u16
     requires { CanStep more 65535 x }
     ensures { result ≡ step more x }
 {
-    if more {
-        return x + 1;
-    }
-    x - 1
+    if more { x + 1 } else { x - 1 }
 }
 
 // The counts of w at the k levels from j on are one more, or one less.
-pub fn step_counts(rack: &mut [u8], w: usize, j: usize, k: usize, more: bool)
-    requires sized { Sized low rack.old }
+pub fn step_counts(rack: &mut Rack, w: usize, j: usize, k: usize, more: bool)
     requires w_lt_most { (w < low.most) × (j + k ≤ low.levels) }
     requires by_index { (x : ℕ) → j ≤ x → x < j + k → CanStep more (largest_count low) (phi_at low rack.old w x) }
     ensures { rack.new ≡ recounted low (step more) rack.old w j k }
 {
-    let mut x = 0;
-    while x < k {
+    for x in 0..k {
         let c = layout::phi(rack, w, j + x);
         layout::set_phi(rack, w, j + x, stepped(c as u16, more) as u8);
-        x += 1;
     }
 }
 
-// The counts of the vertices to which u owns an edge lose u, which leaves its level for level i.
-fn lower_counts(rack: &mut [u8], u: usize, i: usize)
+// The counts of the vertices to which u owns an edge lose u, which leaves its level for level i. Here and in `raise_counts` the walk along the row is no
+// iterator, which would keep the rack lent while the counts in it change.
+fn lower_counts(rack: &mut Rack, u: usize, i: usize)
     requires held { Held low rack.old }
     requires u_bound { (u < (read low rack.old).n) × ((read low rack.old).rank u ≤ i) × (i ≤ top_at rack.old) }
     requires row_below { RowBelow i u (read low rack.old) }
@@ -145,20 +137,17 @@ fn lower_counts(rack: &mut [u8], u: usize, i: usize)
 }
 
 // The counts of u below level k are 0.
-fn zero_counts(rack: &mut [u8], u: usize, k: usize)
-    requires sized { Sized low rack.old }
+fn zero_counts(rack: &mut Rack, u: usize, k: usize)
     requires u_lt_most { (u < low.most) × (k ≤ low.levels) }
     ensures { rack.new ≡ recounted low none rack.old u 0 k }
 {
-    let mut j = 0;
-    while j < k {
+    for j in 0..k {
         layout::set_phi(rack, u, j, 0);
-        j += 1;
     }
 }
 
 // u stands at level i: the second half of a rise, once its edges to the vertices below i are its own.
-fn enter(rack: &mut [u8], u: usize, i: usize)
+fn enter(rack: &mut Rack, u: usize, i: usize)
     requires held { Held low rack.old }
     requires u_bound { (u < (read low rack.old).n) × ((read low rack.old).rank u ≤ i) × (i ≤ top_at rack.old) }
     requires row_below { RowBelow i u (read low rack.old) }
@@ -170,7 +159,7 @@ fn enter(rack: &mut [u8], u: usize, i: usize)
 }
 
 // "Rise of u to i: u takes ownership of every link to a board then below i. Other owners stand."
-pub fn rise(rack: &mut [u8], u: usize, i: usize)
+pub fn rise(rack: &mut Rack, u: usize, i: usize)
     requires held { (Held low rack.old) × (Ordered (read low rack.old)) }
     requires u_bound { (u < (read low rack.old).n) × ((read low rack.old).rank u ≤ i) × (i ≤ top_at rack.old) }
     requires by_index { (w : ℕ) → T ((read low rack.old).owns u w) → (read low rack.old).rank w ≤ i }
@@ -181,7 +170,7 @@ pub fn rise(rack: &mut [u8], u: usize, i: usize)
 }
 
 // The counts at i of the vertices to which v owns an edge gain v, which falls below level i; whether they all stay below the bar.
-fn raise_counts(rack: &mut [u8], v: usize, i: usize, bar: u16) -> bool
+fn raise_counts(rack: &mut Rack, v: usize, i: usize, bar: u16) -> bool
     requires held { Held low rack.old }
     requires v_bound { (v < (read low rack.old).n) × ((read low rack.old).rank v ≡ suc i) × (i ≤ top_at rack.old) }
     requires row_below { RowBelow i v (read low rack.old) }
@@ -203,7 +192,7 @@ fn raise_counts(rack: &mut [u8], v: usize, i: usize, bar: u16) -> bool
 }
 
 // "v falls to i-1", once it owns edges to vertices below i alone, k of them; whether their counts at i all stay below the bar.
-pub fn fall(rack: &mut [u8], v: usize, i: usize, k: usize, bar: u16) -> bool
+pub fn fall(rack: &mut Rack, v: usize, i: usize, k: usize, bar: u16) -> bool
     requires held { Held low rack.old }
     requires v_bound { (v < (read low rack.old).n) × ((read low rack.old).rank v ≡ suc i) × (i ≤ top_at rack.old) }
     requires row_below { (RowBelow i v (read low rack.old)) × (k ≡ below (read low rack.old) v i) }

@@ -1,5 +1,6 @@
 // The calls for C and Rust, under one prefix. Numbers pass as themselves, a slice as a pointer and then a length. The result is document
 // 01's number, 0 if the call ran; a figure comes back through a pointer, 0 where the call is turned back.
+// Exports that differ in a name alone stay apart, since C calls each by its own.
 #![tactic(auto)]
 
 ghost use Rattle.std.specs.Prelude.{◌≡◌};
@@ -8,7 +9,31 @@ ghost use Rattle.model.specs.Counting.{bit};
 ghost use Rattle.model.specs.State.{low_with, low_kind};
 ghost use Rattle.model.specs.Calls.{make_number, made, change_bytes, audit as audit_of, level_query, mate_query, linked_query, roster_query};
 ghost use Rattle.model.specs.Run.{Ran};
+ghost use Rattle.calls.specs.Terms.{outcome};
 ghost use Rattle.changes.specs.Sounded.{brought};
+ghost use Rattle.run.specs.Recording.{told};
+
+use calls::{Figures, Refusal, Settings};
+
+// The number that a call answers: 0 if it ran.
+fn number<T: Copy>(answer: Result<T, Refusal>) -> u32
+    ensures { result ≡ outcome answer }
+{
+    match answer {
+        Ok(_) => 0,
+        Err(why) => u32::from(why),
+    }
+}
+
+// The line that a run names where the text does not fit, or 0.
+fn line_of(answer: Result<usize, Refusal>) -> usize
+    ensures { result ≡ (told answer).line }
+{
+    match answer {
+        Ok(_) => 0,
+        Err(why) => why.line(),
+    }
+}
 
 // Making a rack of n boards with settings.
 #[unsafe(no_mangle)]
@@ -16,7 +41,7 @@ pub extern "C" fn pairing_make_with(rack: &mut [u8], n: u32, growth: u32, top: u
     ensures number { result ≡ make_number (low_with growth top) rack.old n }
     ensures leaves { rack.new ≡ made (low_with growth top) rack.old n }
 {
-    engine::make_with(rack, n, growth, top)
+    number(engine::make_with(rack, n, Settings { growth, top }))
 }
 
 // The short form of making a rack of n boards.
@@ -25,7 +50,7 @@ pub extern "C" fn pairing_make(rack: &mut [u8], n: u32) -> u32
     ensures number { result ≡ make_number low_kind rack.old n }
     ensures leaves { rack.new ≡ made low_kind rack.old n }
 {
-    engine::make(rack, n)
+    number(engine::make(rack, n))
 }
 
 // A change: code 1 adds the link a-b, code 2 drops it, with words lent for its draws.
@@ -47,20 +72,16 @@ pub extern "C" fn pairing_change(
     ensures leaves { rack.new ≡ (change_bytes low rack.old (brought code a b words.now)).rack }
 {
     let answer = engine::change(rack, code, a, b, words);
-    *draws = answer.draws;
-    *falls = answer.falls;
-    *pairs = answer.pairs;
-    answer.number
-}
-
-// 1 for yes and 0 for no.
-fn flag(yes: bool) -> u32
-    ensures { result ≡ bit yes }
-{
-    if yes {
-        return 1;
-    }
-    0
+    let none = Figures {
+        draws: 0,
+        falls: 0,
+        pairs: 0,
+    };
+    let figures = answer.unwrap_or(none);
+    *draws = figures.draws;
+    *falls = figures.falls;
+    *pairs = figures.pairs;
+    number(answer)
 }
 
 // The audit: yes is 1 if the rack is sound.
@@ -70,9 +91,8 @@ pub extern "C" fn pairing_audit(rack: &[u8], yes: &mut u32) -> u32
     ensures yes { yes.new ≡ bit (audit_of low rack.now).yes }
 {
     let answer = engine::audit(rack);
-    let found = flag(answer.yes);
-    *yes = found;
-    answer.number
+    *yes = u32::from(answer.unwrap_or(false));
+    number(answer)
 }
 
 // A board's level, -1 to 3.
@@ -82,9 +102,8 @@ pub extern "C" fn pairing_level(rack: &[u8], v: u32, level: &mut i32) -> u32
     ensures level { level.new ≡ (level_query low rack.now v).level }
 {
     let answer = engine::level(rack, v);
-    let found = answer.level;
-    *level = found;
-    answer.number
+    *level = answer.unwrap_or(0);
+    number(answer)
 }
 
 // A board's mate, 65,535 if it is idle.
@@ -94,9 +113,8 @@ pub extern "C" fn pairing_mate(rack: &[u8], v: u32, mate: &mut u32) -> u32
     ensures mate { mate.new ≡ (mate_query low rack.now v).value }
 {
     let answer = engine::mate(rack, v);
-    let found = answer.value;
-    *mate = found;
-    answer.number
+    *mate = answer.unwrap_or(0);
+    number(answer)
 }
 
 // Whether two boards are linked: 1 or 0.
@@ -106,9 +124,8 @@ pub extern "C" fn pairing_linked(rack: &[u8], v: u32, w: u32, linked: &mut u32) 
     ensures linked { linked.new ≡ (linked_query low rack.now v w).value }
 {
     let answer = engine::linked(rack, v, w);
-    let found = answer.value;
-    *linked = found;
-    answer.number
+    *linked = answer.unwrap_or(0);
+    number(answer)
 }
 
 // The number of boards at a level, 0 for a level outside -1 to 3.
@@ -118,9 +135,8 @@ pub extern "C" fn pairing_roster(rack: &[u8], level: i32, count: &mut u32) -> u3
     ensures count { count.new ≡ (roster_query low rack.now level).value }
 {
     let answer = engine::roster(rack, level);
-    let found = answer.value;
-    *count = found;
-    answer.number
+    *count = answer.unwrap_or(0);
+    number(answer)
 }
 
 // Running a trace text to its record, which stands at the start of `space`; line is the first that doesn't fit, for number 4.
@@ -135,7 +151,7 @@ pub extern "C" fn pairing_run(
     ensures { Ran rack.old text.now space.old (record { number = result; line = line.new; length = length.new }) rack.new space.new }
 {
     let answer = run::run(rack, text, space);
-    *line = answer.line;
-    *length = answer.length;
-    answer.number
+    *line = line_of(answer);
+    *length = answer.unwrap_or(0);
+    number(answer)
 }

@@ -1,76 +1,32 @@
--- Places of a list: the one after its first k, the one of a member, and one that is removed. Assumes nothing.
-use mathlib.Core.Path.{◌≡◌, refl, sym, ap, ◌∙◌, subst}
-use mathlib.Core.Logic.{◌≢◌, inl, inr}
-use mathlib.Core.List.{List, [], ◌∷◌, ◌++◌}
-use Prim.Native.Nat.{ℕ, zero, suc, ◌+◌, ◌-◌, ◌≤◌, ◌<◌}
-use native.Mathlib.Omega.{arith}
-use lib.ListN.{length, get_or, set, take, length-set}
-use Rattle.model.specs.Lists.{Mem, Distinct}
+-- A list without one of its members: the place found for it is closed up. Assumes nothing.
+use Rattle.std.proofs.Common.{◌≡◌, refl, sym, ap, ap₂, ◌∙◌, ℕ, zero, suc, ◌+◌, ◌-◌, ◌<◌, ◌≤◌, Bool, false, None, Some, arith}
+use Rattle.std.proofs.Common.{List, [], ◌∷◌, ◌++◌, length, get_or, take, drop, length-drop, length-take-le}
+use native.Mathlib.Numerals.{add-one}
+use mathlib.Core.Logic.{◌≢◌}
+use Rattle.std.specs.List.{position, position_or_len, copy_within, remove}
+use Rattle.std.proofs.lemmas.List.{take-take, drop-take}
+use Rattle.std.proofs.lemmas.List.Edits.{take-paste}
+use Rattle.std.proofs.lemmas.List.Sums.{fails_before_first}
+use Rattle.std.proofs.lemmas.Grind.{common_steps}
+use lib.Dec.{eqb, eqb→eq}
+use Rattle.std.proofs.lemmas.List.Quantifiers.{position-Some}
+use Rattle.model.specs.Lists.{Distinct}
+use Rattle.model.proofs.Tests.{true-T}
 use Rattle.model.specs.Moves.{without}
-use Rattle.model.proofs.Tests.{eq?}
 use Rattle.model.proofs.Lists.{All-at, get_d-mem, without-yes, without-no, without-absent}
-use Rattle.queue.specs.Places.{removed}
 
--- what is put behind the first k comes last
-pub take-end : (k : ℕ) (l : List ℕ) (v : ℕ) → k < length l → take (suc k) (set l k v) ≡ take k l ++ (v ∷ [])
-take-end zero [] v h = absurd (omega arith)
-take-end zero (x ∷ l) v h = refl
-take-end (suc k) [] v h = absurd (omega arith)
-take-end (suc k) (x ∷ l) v h = ap (λ (m : List ℕ). x ∷ m) (take-end k l v (omega arith))
+-- those behind a place among the first n move up
+pub closed_up : (l : List ℕ) (n at : ℕ) → at < n → n ≤ length l → take (n - 1) (copy_within l (at + 1) n at) ≡ remove (take n l) at
+closed_up l n at b h =
+    let behind : ℕ = n - suc at in
+    let whole : suc at + behind ≡ n = omega arith in
+    let fewer : n - 1 ≡ at + behind = omega arith in
+    rw add-one (ap (λ (m : ℕ). take m (copy_within l (suc at) n at)) fewer
+    ∙ take-paste l at (drop (suc at) l) behind (omega arith) (omega (arith, length-drop (suc at) l))
+    ∙ ap₂ ◌++◌ (sym (take-take at n l (omega arith))) (sym (drop-take (suc at) behind l) ∙ ap (λ (m : ℕ). drop (suc at) (take m l)) whole))
 
-pub length-first : (k : ℕ) (l : List ℕ) → k ≤ length l → length (take k l) ≡ k
-length-first zero l h = refl
-length-first (suc k) [] h = absurd (omega arith)
-length-first (suc k) (x ∷ l) h = ap suc (length-first k l (omega arith))
-
--- a place among the first k
-pub first-at : (k : ℕ) (l : List ℕ) (x : ℕ) → x < length (take k l) → get_or (take k l) x 0 ≡ get_or l x 0
-first-at zero l x h = absurd (omega arith)
-first-at (suc k) [] x h = refl
-first-at (suc k) (y ∷ l) zero h = refl
-first-at (suc k) (y ∷ l) (suc x) h = first-at k l x (omega arith)
-
-pub first_short : (k : ℕ) (l : List ℕ) → (length (take k l) ≤ k) × (length (take k l) ≤ length l)
-first_short zero l = (omega arith, omega arith)
-first_short (suc k) [] = (omega arith, omega arith)
-first_short (suc k) (x ∷ l) = (omega (arith, (first_short k l).0), omega (arith, (first_short k l).1))
-
--- A member that does not stand before `at` stands at `at` or behind it.
-pub ahead : (l : List ℕ) (v at : ℕ) → Mem v l → ((x : ℕ) → x < at → get_or l x 0 ≢ v) → at < length l
-ahead [] v at m h = absurd m
-ahead (y ∷ l) v zero m h = omega arith
-ahead (y ∷ l) v (suc at) (inl e) h = absurd (h 0 (omega arith) (sym e))
-ahead (y ∷ l) v (suc at) (inr m) h = omega (arith, ahead l v at m (λ x b. h (suc x) (omega arith)))
-
--- nor at `at`
-pub not-before : (l : List ℕ) {v at : ℕ} → ((x : ℕ) → x < at → get_or l x 0 ≢ v) → get_or l at 0 ≢ v → (x : ℕ) → x < at + 1 → get_or l x 0 ≢ v
-not-before l {v} {at} h d x b = elim (eq? x at) [ inl e ↦ subst (λ (y : ℕ). get_or l y 0 ≢ v) (sym e) d | inr n ↦ h x (omega arith) ]
-
--- Those behind a place move up, one after the other.
-pub move_up : (l : List ℕ) (j : ℕ) → suc j < length l → removed j l ≡ removed (suc j) (set l j (get_or l (suc j) 0))
-unfolding removed
-move_up [] j h = absurd (omega arith)
-move_up (x ∷ []) j h = absurd (omega arith)
-move_up (x ∷ y ∷ l) zero h = refl
-move_up (x ∷ y ∷ l) (suc j) h = ap (λ (m : List ℕ). x ∷ m) (move_up (y ∷ l) j (omega arith))
-
-pub removed-last : (j : ℕ) (l : List ℕ) → j < length l → removed j (take (suc j) l) ≡ take j l
-unfolding removed
-removed-last zero [] h = absurd (omega arith)
-removed-last zero (x ∷ l) h = refl
-removed-last (suc j) [] h = absurd (omega arith)
-removed-last (suc j) (x ∷ l) h = ap (λ (m : List ℕ). x ∷ m) (removed-last j l (omega arith))
-
--- a place among the first k is changed
-pub take-set : (k : ℕ) (l : List ℕ) (x v : ℕ) → x < k → take k (set l x v) ≡ set (take k l) x v
-take-set zero l x v h = absurd (omega arith)
-take-set (suc k) [] x v h = refl
-take-set (suc k) (y ∷ l) zero v h = refl
-take-set (suc k) (y ∷ l) (suc x) v h = ap (λ (m : List ℕ). y ∷ m) (take-set k l x v (omega arith))
-
--- the place of v, which stands once
-pub removed-without : (l : List ℕ) (at : ℕ) → Distinct l → at < length l → removed at l ≡ without (get_or l at 0) l
-unfolding removed
+-- the place of one that stands once
+pub removed-without : (l : List ℕ) (at : ℕ) → Distinct l → at < length l → remove l at ≡ without (get_or l at 0) l
 removed-without [] at d h = absurd (omega arith)
 removed-without (x ∷ l) zero d h =
     sym (without-yes x x l refl ∙ without-absent x l (λ m. All-at (λ y. x ≢ y) l d.0 x m refl))
@@ -78,26 +34,23 @@ removed-without (x ∷ l) (suc at) d h =
     ap (λ (m : List ℕ). x ∷ m) (removed-without l at d.1 (omega arith))
     ∙ sym (without-no (get_or l at 0) x l (All-at (λ y. x ≢ y) l d.0 (get_or l at 0) (get_d-mem l at (omega arith))))
 
--- While they move up: the place that is still to be closed is j.
-pub record MovingUp (old : List ℕ) (k at : ℕ) (l : List ℕ) (j : ℕ) : Type 0 where
-  pub ahead : removed j (take k l) ≡ removed at (take k old)
-  pub within : j < k
-  pub long : length l ≡ length old
+-- who is found in the queue q leaves it, and those behind move up
+pub found-without : (v at n : ℕ) (l : List ℕ) {q : List ℕ} → take n l ≡ q → n ≤ length l → Distinct q → position (λ w. eqb w v) q ≡ Some at
+    → take (n - 1) (copy_within l (at + 1) n at) ≡ without v q
+found-without v at n l {q} is h d e =
+    let found = position-Some (λ w. eqb w v) q at 0 e in
+    let there : get_or q at 0 ≡ v = eqb→eq _ _ (true-T found.1) in
+    closed_up l n at (omega (arith, found.0, ap length is, length-take-le n l h)) h ∙ ap (λ (m : List ℕ). remove m at) is ∙ removed-without q at d found.0
+    ∙ ap (λ (w : ℕ). without w q) there
 
-module _ {old : List ℕ} {k at : ℕ} {l : List ℕ} {j : ℕ} (g : MovingUp old k at l j) (h : k ≤ length old) where
-  pub moved_up : suc j < k → MovingUp old k at (set l j (get_or l (suc j) 0)) (suc j)
-  moved_up b =
-      let n : length (take k l) ≡ k = length-first k l (omega (arith, g.long)) in
-      record {
-        ahead = ap (removed (suc j)) (take-set k l j (get_or l (suc j) 0) g.within
-            ∙ ap (set (take k l) j) (sym (first-at k l (suc j) (omega arith))))
-            ∙ sym (move_up (take k l) j (omega arith)) ∙ g.ahead;
-        within = b;
-        long = length-set l j (get_or l (suc j) 0) ∙ g.long;
-      }
+-- one that stands nowhere
+without-nowhere : (v : ℕ) (l : List ℕ) → ((k : ℕ) → k < length l → eqb (get_or l k 0) v ≡ false) → without v l ≡ l
+unfolding without
+without-nowhere v [] h = refl
+without-nowhere v (w ∷ l) h = rw (h 0 (omega arith), without) (ap (λ (m : List ℕ). w ∷ m) (without-nowhere v l (λ k b. h (suc k) (omega arith))))
 
-  pub all_up : k ≤ suc j → take (k - 1) l ≡ removed at (take k old)
-  all_up b =
-      let e : k ≡ suc j = omega (arith, g.within) in
-      let f : k - 1 ≡ j = omega arith in
-      ap (λ (x : ℕ). take x l) f ∙ sym (removed-last j l (omega (arith, g.long))) ∙ ap (λ (x : ℕ). removed j (take x l)) (sym e) ∙ g.ahead
+position-none : (p : ℕ → Bool) (l : List ℕ) → position p l ≡ None → length l ≤ position_or_len p l
+position-none p l e = grind (arith, common_steps)
+
+pub none-without : (v : ℕ) (l : List ℕ) → position (λ w. eqb w v) l ≡ None → l ≡ without v l
+none-without v l e = sym (without-nowhere v l (λ k b. fails_before_first (λ w. eqb w v) l k 0 (omega (arith, position-none (λ w. eqb w v) l e))))

@@ -1,48 +1,71 @@
-// A queue of vertices in places that are lent: the first k of them hold those in it, in the order of their arrival.
+// Vertices that wait, in the order of their arrival.
 #![tactic(auto)]
 
-ghost use Rattle.std.specs.Prelude.{◌≡◌, [], ◌∷◌, ◌++◌, suc, ◌-◌, ◌<◌, ◌≤◌, length, get_or, take};
-ghost use Rattle.model.specs.Lists.{Mem, Distinct};
+ghost use Rattle.std.specs.Prelude.{◌≡◌, ℕ, ◌<◌, ◌≤◌, eqb, List, [], ◌∷◌, ◌++◌, length, take};
+ghost use Rattle.std.specs.List.{position};
+ghost use Rattle.model.specs.Lists.{Distinct};
 ghost use Rattle.model.specs.Moves.{without};
-ghost use Rattle.queue.specs.Places.{removed};
 
-// v joins the end.
-pub fn join(queue: &mut [u16], k: usize, v: usize)
-    requires { (k < length queue.old) × (v < 65536) }
-    ensures { take (suc k) queue.new ≡ take k queue.old ++ (v ∷ []) }
-{
-    queue[k] = v as u16;
+use std::marker::Model;
+
+// A queue of at most N vertices: the first of its places hold them.
+#[derive(Drop)]
+pub struct Queue<const N: usize> {
+    places: [u16; N],
+    len: usize,
 }
 
-// The place of v, which is in the queue.
-fn find(queue: &[u16], k: usize, v: usize) -> usize
-    requires { Mem v (take k queue.now) }
-    ensures { (result < length (take k queue.now)) × (get_or (take k queue.now) result 0 ≡ v) }
+impl<const N: usize> Model for Queue<N> {
+    ghost Value = { List ℕ };
+
+    ghost view = { λ q. take q.len q.places };
+
+    ghost invariant = { λ q. q.len ≤ N };
+}
+
+// The place of v, if it is among those that wait.
+fn find(waiting: &[u16], v: usize) -> Option<usize>
+    ensures { result ≡ position (λ w. eqb w v) waiting.now }
 {
-    let mut at = 0;
-    while queue[at] as usize != v {
-        at += 1;
+    waiting.iter().position(|w| *w as usize == v)
+}
+
+impl<const N: usize> Queue<N> {
+    // Nobody waits.
+    pub fn new() -> Self
+        ensures { result ≡ [] }
+    {
+        Queue {
+            places: [0; N],
+            len: 0,
+        }
     }
-    at
-}
 
-// The vertex at place `at` leaves, and those behind it move up.
-fn close_up(queue: &mut [u16], k: usize, at: usize)
-    requires { (at < k) × (k ≤ length queue.old) }
-    ensures { take (k - 1) queue.new ≡ removed at (take k queue.old) }
-{
-    let mut j = at;
-    while j + 1 < k {
-        queue[j] = queue[j + 1];
-        j += 1;
+    // Those that wait.
+    pub fn as_slice(&self) -> &[u16]
+        ensures { result.now ≡ self.now }
+    {
+        &self.places[..self.len]
     }
-}
 
-// v leaves, wherever it stands.
-pub fn leave(queue: &mut [u16], k: usize, v: usize)
-    requires { (k ≤ length queue.old) × (Distinct (take k queue.old)) × (Mem v (take k queue.old)) }
-    ensures { take (k - 1) queue.new ≡ without v (take k queue.old) }
-{
-    let at = find(queue, k, v);
-    close_up(queue, k, at);
+    // v joins the end.
+    pub fn join(&mut self, v: usize)
+        requires { (length self.old < N) × (v < 65536) }
+        ensures { self.new ≡ self.old ++ (v ∷ []) }
+    {
+        self.places[self.len] = v as u16;
+        self.len += 1;
+    }
+
+    // v leaves, wherever it stands, and those behind it move up.
+    pub fn leave(&mut self, v: usize)
+        requires { Distinct self.old }
+        ensures { self.new ≡ without v self.old }
+    {
+        let Some(at) = find(self.as_slice(), v) else {
+            return;
+        };
+        self.places.copy_within(at + 1..self.len, at);
+        self.len -= 1;
+    }
 }

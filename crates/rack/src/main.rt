@@ -8,15 +8,14 @@ ghost use Rattle.std.specs.Process.{exit_status};
 mod input;
 mod output;
 
-use input::Reading;
 use std::io;
 use std::process::ExitCode;
 
 fn main(rt: HostRuntime) -> ExitCode {
     let mut text = [0u8; run::TEXT_LIMIT + 1];
     let n = match input::read_text(&mut rt.stdin(), &mut text) {
-        Reading::Read(n) => n,
-        Reading::Failed(e) => return failed(&rt, "reading the trace", e),
+        Ok(n) => n,
+        Err(e) => return failed(&rt, "reading the trace", e),
     };
     let mut rack = [0u8; layout::shape::RACK_BYTES];
     let mut space = [0u8; run::RECORD_SPACE];

@@ -1,2 +1,3 @@
--- Laws of the lines of a record.
+-- Laws of the lines of a record, and of the pen that writes them.
 pub mod Laws
+pub mod Pens

@@ -1,12 +1,13 @@
 -- The lines of a record by their figures. That a state's lines in `model` are these is a law (proofs/Laws.antt). Assumes nothing.
-use Rattle.std.specs.Prelude.{List, ◌++◌, ℕ}
+use Rattle.std.specs.Prelude.{List, ◌++◌, ℕ, Option, None, Some}
 use Rattle.model.specs.Text.{bytes, decimal}
-use Rattle.model.specs.Change.{Answer}
 use Rattle.model.specs.Record.{Mean}
+use Rattle.calls.specs.declared.Settings.{Settings}
 
--- a piece of a line: a fixed text, and a figure after it
-unfoldable pub piece : List ℕ → ℕ → List ℕ
-piece p x = p ++ decimal x
+-- how many bytes the settings in line 1 need at most
+abbrev pub settings_room : Option Settings → ℕ
+settings_room None = 0
+settings_room (Some x) = 37
 
 -- a line of one figure, and one of three
 unfoldable pub one_text : List ℕ → ℕ → List ℕ → List ℕ
@@ -14,10 +15,6 @@ one_text p x e = p ++ (decimal x ++ e)
 
 unfoldable pub three_text : List ℕ → ℕ → List ℕ → ℕ → List ℕ → ℕ → List ℕ → List ℕ
 three_text p x q y r z e = p ++ (decimal x ++ (q ++ (decimal y ++ (r ++ (decimal z ++ e)))))
-
--- an answer by its figures
-abbrev pub answered : ℕ → ℕ → ℕ → ℕ → Answer
-answered number draws falls pairs = record { number = number; draws = draws; falls = falls; pairs = pairs }
 
 -- the line of a change made
 abbrev pub done_text : ℕ → ℕ → ℕ → List ℕ

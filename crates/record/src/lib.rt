@@ -1,81 +1,94 @@
 // The lines of a record. A printer writes at the start of the part that it is lent and answers how much it wrote; bytes past that keep
 // their values. "each line is put straight after the one before it in the record space": a caller lends the rest of the space.
+// No line is an `impl Display`: without a heap its text would go through a formatter to the lent space, and each byte there is promised.
 #![tactic(auto)]
 
-ghost use Rattle.std.specs.Prelude.{◌≤◌, length};
-ghost use Rattle.model.specs.Trace.{short, long, rack_line};
+ghost use Rattle.std.specs.Prelude.{◌≡◌, ◌+◌, ◌≤◌, length};
+ghost use Rattle.model.specs.Text.{largest};
+ghost use Rattle.model.specs.Trace.{settings_text, rack_line};
 ghost use Rattle.model.specs.Record.{answer_line, end_text, blank_record};
 ghost use Rattle.model.specs.Run.{bad_line};
 ghost use Rattle.text.specs.Writing.{Put};
-ghost use Rattle.text.specs.Rooms.{short_room, rack_room, answer_room, pair_room, end_room, bad_room};
-ghost use Rattle.record.specs.Line.{piece, answered, done_text, refused_text, pair_text, mean_of};
+ghost use Rattle.text.specs.Rooms.{short_room, answer_room, pair_room, end_room, bad_room};
+ghost use Rattle.calls.specs.Terms.{number_of, line_of, told, named_by};
+ghost use Rattle.record.specs.Pen.{Adds};
+ghost use Rattle.record.specs.Line.{settings_room, done_text, refused_text, pair_text, mean_of};
 
-// Writes the fixed text p and a figure after it.
-fn put_piece(out: &mut [u8], p: &[u8], x: u32) -> usize
-    requires { length (piece p.now x) ≤ length out.old }
-    ensures { Put (piece p.now x) out.old out.new result }
+mod pen;
+
+use calls::{Figures, Refusal, Settings};
+use pen::Pen;
+
+// The fixed texts stand where they are written, so that each writer is compiled in with the text's length known.
+
+// Writes line 1, which the record repeats from the trace, in the form that it has there: long with settings, else short.
+pub fn put_rack(out: &mut [u8], n: u32, settings: Option<Settings>) -> usize
+    requires { short_room + settings_room settings ≤ length out.old }
+    ensures { Put (rack_line n (named_by settings)) out.old out.new result }
 {
-    let a = text::put_literal(out, p);
-    a + text::put_number(&mut out[a..], x)
+    let mut pen = Pen { out, at: 0 };
+    pen.literal(b"(rack (boards ");
+    pen.number(n);
+    pen.literal(b")");
+    put_settings(&mut pen, settings);
+    pen.literal(b")\n");
+    pen.at
 }
 
-// Writes line 1, which the record repeats from the trace, in its short form.
-pub fn put_rack(out: &mut [u8], n: u32) -> usize
-    requires { short_room ≤ length out.old }
-    ensures { Put (rack_line n short) out.old out.new result }
+// The settings that line 1 names, if it does.
+fn put_settings(pen: &mut Pen, settings: Option<Settings>)
+    requires { pen.old.at + settings_room settings ≤ length pen.old.out.now }
+    ensures adds { Adds (settings_text (named_by settings)) pen.old pen.new }
+    ensures few { pen.new.at ≤ pen.old.at + settings_room settings }
 {
-    let a = put_piece(out, b"(rack (boards ", n);
-    a + text::put_literal(&mut out[a..], b"))\n")
+    if let Some(given) = settings {
+        pen.literal(b" (growth ");
+        pen.number(given.growth);
+        pen.literal(b") (top ");
+        pen.number(given.top);
+        pen.literal(b")");
+    }
 }
 
-// Writes line 1 in its long form.
-pub fn put_rack_with(out: &mut [u8], n: u32, growth: u32, top: u32) -> usize
-    requires { rack_room ≤ length out.old }
-    ensures { Put (rack_line n (long growth top)) out.old out.new result }
+// Writes the line of a change: `(done (draws D) (falls F) (pairs P))` with its figures, or `(refused K)` with the refusal's number.
+pub fn put_answer(out: &mut [u8], answer: Result<Figures, Refusal>) -> usize
+    requires room { answer_room ≤ length out.old }
+    requires draws_fit { (told answer).draws ≤ largest }
+    ensures { Put (answer_line (told answer)) out.old out.new result }
 {
-    let i = put_piece(out, b"(rack (boards ", n);
-    let j = i + put_piece(&mut out[i..], b") (growth ", growth);
-    let k = j + put_piece(&mut out[j..], b") (top ", top);
-    k + text::put_literal(&mut out[k..], b"))\n")
+    match answer {
+        Ok(figures) => put_done(out, figures),
+        Err(why) => put_refused(out, u32::from(why)),
+    }
 }
-
-// The lines of a change and of a pair are printed most. Their fixed texts stand where they are written, so that each writer is compiled in with
-// the text's length known; in put_piece, which is lent its text, it is not.
 
 // The line of a change made.
-fn put_done(out: &mut [u8], draws: u32, falls: u32, pairs: u32) -> usize
-    requires { answer_room ≤ length out.old }
-    ensures { Put (done_text draws falls pairs) out.old out.new result }
+pub fn put_done(out: &mut [u8], figures: Figures) -> usize
+    requires room { answer_room ≤ length out.old }
+    requires draws_fit { figures.draws ≤ largest }
+    ensures { Put (done_text figures.draws figures.falls figures.pairs) out.old out.new result }
 {
-    let a = text::put_literal(out, b"(done (draws ");
-    let b = a + text::put_number(&mut out[a..], draws);
-    let c = b + text::put_literal(&mut out[b..], b") (falls ");
-    let d = c + text::put_number(&mut out[c..], falls);
-    let e = d + text::put_literal(&mut out[d..], b") (pairs ");
-    let f = e + text::put_number(&mut out[e..], pairs);
-    f + text::put_literal(&mut out[f..], b"))\n")
+    let mut pen = Pen { out, at: 0 };
+    pen.literal(b"(done (draws ");
+    pen.number(figures.draws as u32);
+    pen.literal(b") (falls ");
+    pen.number(figures.falls);
+    pen.literal(b") (pairs ");
+    pen.number(figures.pairs);
+    pen.literal(b"))\n");
+    pen.at
 }
 
-// The line of a change refused.
-fn put_refused(out: &mut [u8], number: u32) -> usize
+// The line of a change refused, by any number.
+pub fn put_refused(out: &mut [u8], number: u32) -> usize
     requires { answer_room ≤ length out.old }
     ensures { Put (refused_text number) out.old out.new result }
 {
-    let a = text::put_literal(out, b"(refused ");
-    let b = a + text::put_number(&mut out[a..], number);
-    b + text::put_literal(&mut out[b..], b")\n")
-}
-
-// Writes the line of a change: `(done (draws D) (falls F) (pairs P))` for number 0, else `(refused K)`.
-pub fn put_answer(out: &mut [u8], number: u32, draws: u32, falls: u32, pairs: u32) -> usize
-    requires { answer_room ≤ length out.old }
-    ensures { Put (answer_line (answered number draws falls pairs)) out.old out.new result }
-{
-    if number == 0 {
-        put_done(out, draws, falls, pairs)
-    } else {
-        put_refused(out, number)
-    }
+    let mut pen = Pen { out, at: 0 };
+    pen.literal(b"(refused ");
+    pen.number(number);
+    pen.literal(b")\n");
+    pen.at
 }
 
 // Writes the line of the pair a-b, a the lower vertex.
@@ -83,13 +96,15 @@ pub fn put_pair(out: &mut [u8], a: u32, b: u32, level: u32) -> usize
     requires { pair_room ≤ length out.old }
     ensures { Put (pair_text a b level) out.old out.new result }
 {
-    let i = text::put_literal(out, b"(pair (");
-    let j = i + text::put_number(&mut out[i..], a);
-    let k = j + text::put_literal(&mut out[j..], b" ");
-    let l = k + text::put_number(&mut out[k..], b);
-    let m = l + text::put_literal(&mut out[l..], b") (level ");
-    let n = m + text::put_number(&mut out[m..], level);
-    n + text::put_literal(&mut out[n..], b"))\n")
+    let mut pen = Pen { out, at: 0 };
+    pen.literal(b"(pair (");
+    pen.number(a);
+    pen.literal(b" ");
+    pen.number(b);
+    pen.literal(b") (level ");
+    pen.number(level);
+    pen.literal(b"))\n");
+    pen.at
 }
 
 // Writes the end line: the pairs held, and the mean of the links, `whole` for each vertex and `rest` left over.
@@ -97,10 +112,15 @@ pub fn put_end(out: &mut [u8], pairs: u32, whole: u32, rest: u32) -> usize
     requires { end_room ≤ length out.old }
     ensures { Put (end_text pairs (mean_of whole rest)) out.old out.new result }
 {
-    let a = put_piece(out, b"(end (pairs ", pairs);
-    let b = a + put_piece(&mut out[a..], b") (mean ", whole);
-    let c = b + put_piece(&mut out[b..], b" ", rest);
-    c + text::put_literal(&mut out[c..], b"))\n")
+    let mut pen = Pen { out, at: 0 };
+    pen.literal(b"(end (pairs ");
+    pen.number(pairs);
+    pen.literal(b") (mean ");
+    pen.number(whole);
+    pen.literal(b" ");
+    pen.number(rest);
+    pen.literal(b"))\n");
+    pen.at
 }
 
 // Writes the record of a blank paper, which is this line alone.
@@ -112,11 +132,17 @@ pub fn put_blank(out: &mut [u8]) -> usize
 }
 
 // Writes the line of a run that was turned back.
-pub fn put_bad(out: &mut [u8], number: u32, line: u32) -> usize
-    requires { bad_room ≤ length out.old }
-    ensures { Put (bad_line number line) out.old out.new result }
+pub fn put_bad(out: &mut [u8], why: Refusal) -> usize
+    requires room { bad_room ≤ length out.old }
+    requires line_fits { line_of why ≤ largest }
+    ensures { Put (bad_line (number_of why) (line_of why)) out.old out.new result }
 {
-    let a = put_piece(out, b"(bad ", number);
-    let b = a + put_piece(&mut out[a..], b" ", line);
-    b + text::put_literal(&mut out[b..], b")\n")
+    let line = why.line() as u32;
+    let mut pen = Pen { out, at: 0 };
+    pen.literal(b"(bad ");
+    pen.number(u32::from(why));
+    pen.literal(b" ");
+    pen.number(line);
+    pen.literal(b")\n");
+    pen.at
 }

@@ -9,6 +9,7 @@ use native.Mathlib.Omega.{arith}
 use lib.Dec.{T, ltb, eqb, ltb→lt, eqb→eq, lt→ltb}
 use lib.ListN.{length, take, drop}
 use lib.Seq.{take_at}
+use Rattle.std.specs.Prelude.{Result}
 use Rattle.model.specs.Counting.{each}
 use Rattle.model.specs.Shape.{Shape, low}
 use Rattle.model.specs.State.{Rules, Kind, rules, State, empty, edge, edges, pairs}
@@ -31,13 +32,13 @@ use Rattle.theory.proofs.LastRack.{last-facts}
 use Rattle.theory.proofs.ListTheorem.{next-ledger, from-valid}
 use Rattle.theory.proofs.Crowding.{crowding}
 use Rattle.text.proofs.Answers.{refused-line}
-use Rattle.record.specs.Line.{answered, pair_text}
+use Rattle.calls.specs.declared.Refusal.{Refusal}
+use Rattle.record.specs.Line.{pair_text}
 use Rattle.changes.specs.Sounded.{Sounded}
 use Rattle.changes.proofs.Wholes.{sounded-held}
 use Rattle.moves.proofs.Held.{held-few}
 use Rattle.trace.proofs.RecordFits.{LowValid, asked-valid, low_keeps}
 use Rattle.run.specs.Recording.{pair_part, told}
-use Rattle.run.specs.declared.RunAnswer.{RunAnswer}
 use Rattle.run.specs.RunDemand.{fresh_rack, fresh_ledger, last_ledger, answer_by, changes_by, pairs_by, ending_by, RunDemand, RunDemanded, of-blank, of-trace}
 use Rattle.run.proofs.Pairs.{shown, left_out, part_free, part-upper, part-line}
 use Rattle.run.proofs.Turns.{rack-of-low, sounded-read}
@@ -50,7 +51,7 @@ line-by {l} {bs} {c} {d} h = elim (eq? (ledger_number l (told_of low bs c)) 0) [
   | inl e ↦
       let number : d.answer.number ≡ (answer_by l (told_of low bs c) d).number = omega (arith, h.number) in
       let pairs : d.answer.pairs ≡ (answer_by l (told_of low bs c) d).pairs = omega (arith, h.accepted-pairs e) in
-      λ i. answer_line (answered (number i) d.answer.draws d.answer.falls (pairs i))
+      λ i. answer_line (record { number = number i; draws = d.answer.draws; falls = d.answer.falls; pairs = pairs i })
   | inr e ↦
       refused-line d.answer (λ z. e (sym h.number ∙ z))
       ∙ ap (λ (k : ℕ). bytes "(refused " ++ (decimal k ++ bytes ")\n")) h.number
@@ -167,7 +168,8 @@ settings-of s ok =
     (growth-write s good ∙ ap (λ (L : Kind). L.growth) ok.kind, top-write s good ∙ ap (λ (L : Kind). L.top) ok.kind)
 
 changes-by : {K : Kind} (s : State) → LowValid K s → (cs : List Change)
-    → changes_text (rules K) s cs ≡ changes_by (ledger s) (write s) cs ++ ending_by (entered_all (ledger s) (told_all low (write s) cs)) (last_rack low (write s) cs)
+    → changes_text (rules K) s cs
+    ≡ changes_by (ledger s) (write s) cs ++ ending_by (entered_all (ledger s) (told_all low (write s) cs)) (last_rack low (write s) cs)
 unfolding changes_text changes_by entered_all told_all last_rack Calls
 changes-by s ok [] = ending-by s ok
 changes-by {K} s ok (c ∷ cs) =
@@ -223,6 +225,6 @@ of-ran {space = space} (ran {t} z s w h g) e =
 
 -- Whatever bytes `run::run` was lent: if it answers 0, the text is blank, and the rack stays and the record says no pair; or the text holds a
 -- trace, and the record that it tells of, and the rack, are as demand 3 says of that trace.
-pub demand-three-of-run : {rack text space last new : List ℕ} (r : RunAnswer) → Ran rack text space (told r) last new → r.number ≡ 0
-    → RunDemanded rack text last (take r.length new)
+pub demand-three-of-run : {rack text space last new : List ℕ} (r : Result ℕ Refusal) → Ran rack text space (told r) last new → (told r).number ≡ 0
+    → RunDemanded rack text last (take (told r).length new)
 demand-three-of-run r h e = of-ran h e

@@ -1,18 +1,16 @@
--- The loop over the changes: which of them are made, what is left of the text, and what is printed; how a turn moves it on, and its end.
+-- The loop over the changes: which of them are made, what is left to be made, and what is printed; how a turn moves it on, and its end.
 -- No contract cites this file. Assumes nothing.
 use mathlib.Core.Path.{◌≡◌, refl, sym, ap, ◌∙◌, subst}
 use mathlib.Core.List.{List, [], ◌∷◌, ◌++◌, append_assoc}
-use Prim.Native.Nat.{ℕ, ◌+◌, ◌*◌, ◌-◌, ◌≤◌, ◌<◌}
+use Prim.Native.Nat.{ℕ, ◌+◌, ◌*◌, ◌-◌, ◌≤◌}
 use native.Mathlib.Omega.{arith}
-use lib.ListN.{length, get_or, take, drop, length-append, length-drop}
-use lib.Seq.{get_or-drop, drop-drop, take_at, drop_at}
-use native.Mathlib.Nat.{add-zero}
+use lib.ListN.{length, take, drop, length-drop, drop_of_length-le}
+use lib.Seq.{drop-drop}
 use Rattle.model.specs.Shape.{low}
 use Rattle.model.specs.State.{Rules, Kind, rules, State}
 use Rattle.model.specs.Bytes.{kind_at, rules_at, read, write}
-use Rattle.model.specs.Text.{texts}
 use Rattle.model.specs.Lists.{All}
-use Rattle.model.specs.Change.{Change, Answer, change}
+use Rattle.model.specs.Change.{Change, Changed, change}
 use Rattle.model.specs.Trace.{LineChange}
 use Rattle.model.specs.Record.{answer_line, after, changes_text}
 use Rattle.model.proofs.Reading.{read-kind}
@@ -21,15 +19,15 @@ use Rattle.text.specs.Writing.{Put}
 use Rattle.text.specs.Rooms.{answer_room, ending_room}
 use Rattle.text.proofs.Over.{part, back, put_as, put-none, put_then, put-length}
 use Rattle.text.proofs.Answers.{answer-most}
-use Rattle.record.specs.Line.{answered}
-use Rattle.trace.specs.Check.{head_of, words_of, HeadAt, Kept}
-use Rattle.trace.specs.declared.Head.{Head}
+use Rattle.calls.specs.Terms.{code_of}
+use Rattle.lines.specs.declared.Line.{Line}
+use Rattle.lines.specs.Clauses.{change_of}
+use Rattle.trace.specs.Check.{Kept}
 use Rattle.trace.proofs.Bound.{ending-most}
 use Rattle.trace.proofs.RecordFits.{LowValid, low_keeps, valid-small, valid-figures}
-use Rattle.changes.specs.declared.Answer.{Answer as Answered}
-use Rattle.changes.specs.Sounded.{Sounded, Answers, brought}
+use Rattle.changes.specs.Sounded.{Sounded, brought}
 use Rattle.changes.proofs.Answered.{rack-reads, sounded-of}
-use Rattle.run.specs.Recording.{ending_text, Ready, Played}
+use Rattle.run.specs.Recording.{ending_text, changes_of, IsKept, Ready, Played}
 
 -- bytes that write a valid state are sound, and reading them gives it again, and its kind
 pub rack-of-low : {K : Kind} (s : State) → LowValid K s → Rack s
@@ -46,124 +44,44 @@ sounded-read bs s e ok =
 pub sounded-valid : {bs : List ℕ} → Sounded low bs → LowValid (kind_at low bs) (read low bs)
 sounded-valid {bs} ok = record { shape = refl; good = ok.kind; kind = read-kind low bs; valid = ok.valid }
 
--- an answer's line was written by figures that are the answer's
-pub line_as : {r : Answered} {x : Answer} {old new : List ℕ} {k : ℕ} → Answers r x
-    → Put (answer_line (answered r.number r.draws r.falls r.pairs)) old new k → Put (answer_line x) old new k
-line_as a w = put_as _ _ (λ i. answer_line (answered (a.number i) (a.draws i) (a.falls i) (a.pairs i))) w
-
 -- the lines after those of the changes have room
 ending-fits : {K : Kind} (s : State) → LowValid K s → length (ending_text s) ≤ ending_room
 unfolding ending_text
 ending-fits s ok = ending-most s (valid-small s ok)
 
--- `changes` are kept, n of them; `rest` of them, from the k-th head and the w-th word on, are still to be made
-pub record Going (heads words : List ℕ) (n : ℕ) (rack₀ rack out₀ out : List ℕ) (k w at : ℕ) : Type 0 where
-  pub changes : List Change
-  pub kept : Kept heads words changes
-  pub count : n ≡ length changes
-  pub rest : List Change
-  pub lines : All LineChange rest
-  pub left : k + length rest ≡ n
+-- The first k of the changes are made, and those from the k-th head and the w-th word on are still to be made.
+pub record Going (heads : List Line) (words rack₀ rack out₀ out : List ℕ) (k w at : ℕ) : Type 0 where
   pub within : w ≤ length words
-  pub heads-rest : List ℕ
-  pub heads-are : drop (4 * k) heads ≡ texts head_of rest ++ heads-rest
-  pub words-rest : List ℕ
-  pub words_are : drop w words ≡ texts words_of rest ++ words-rest
+  pub kept : Kept (drop k heads) (drop w words) (changes_of (drop k heads) (drop w words))
+  pub lines : All LineChange (changes_of (drop k heads) (drop w words))
   pub sounded : Sounded low rack
-  pub leaves : after (rules_at rack₀) (read low rack₀) changes ≡ after (rules_at rack) (read low rack) rest
+  pub leaves : after (rules_at rack₀) (read low rack₀) (changes_of heads words)
+      ≡ after (rules_at rack) (read low rack) (changes_of (drop k heads) (drop w words))
   pub done : List ℕ
   pub wrote : Put done out₀ out at
-  pub whole : changes_text (rules_at rack₀) (read low rack₀) changes ≡ done ++ changes_text (rules_at rack) (read low rack) rest
-  pub room : at + answer_room * length rest + ending_room ≤ length out₀
+  pub whole : changes_text (rules_at rack₀) (read low rack₀) (changes_of heads words)
+      ≡ done ++ changes_text (rules_at rack) (read low rack) (changes_of (drop k heads) (drop w words))
+  pub room : at + answer_room * length (drop k heads) + ending_room ≤ length out₀
 
-pub going_start : (heads words : List ℕ) (n : ℕ) (rack out : List ℕ) → Sounded low rack → Ready heads words n (length out)
-    → Going heads words n rack rack out out 0 0 0
-going_start heads words n rack out ok r = record {
-  changes = r.changes;
-  kept = r.kept;
-  count = r.count;
-  rest = r.changes;
-  lines = r.lines;
-  left = omega (arith, r.count);
+changes-count : (heads : List Line) (words : List ℕ) → length (changes_of heads words) ≡ length heads
+changes-count [] words = refl
+changes-count (x ∷ heads) words = omega (arith, changes-count heads (drop x.count words))
+
+pub going_start : {heads : List Line} {words rack out : List ℕ} → Sounded low rack → IsKept heads words → Ready (changes_of heads words) (length out)
+    → Going heads words rack rack out out 0 0 0
+going_start {heads} {words} {out = out} ok k r = record {
   within = omega arith;
-  heads-rest = r.kept.heads-rest;
-  heads-are = r.kept.heads-are;
-  words-rest = r.kept.words-rest;
-  words_are = r.kept.words_are;
+  kept = k.kept;
+  lines = k.lines;
   sounded = ok;
   leaves = refl;
   done = [];
   wrote = put-none out;
   whole = refl;
-  room = omega (arith, r.enough, r.count);
+  room = omega (arith, r, changes-count heads words);
 }
 
--- what stands in the places of a change
-pub record StoredChange (heads words : List ℕ) (k w : ℕ) (c : Change) : Type 0 where
-  pub code : get_or heads (4 * k) 0 ≡ c.code
-  pub a : get_or heads (4 * k + 1) 0 ≡ c.a
-  pub b : get_or heads (4 * k + 2) 0 ≡ c.b
-  pub size : get_or heads (4 * k + 3) 0 ≡ length c.words
-  pub words_are : take (length c.words) (drop w words) ≡ c.words
-  pub heads-within : 4 * k + 4 ≤ length heads
-  pub words-within : w + length c.words ≤ length words
-
--- the head that was read is the change's: how many words it has, and that its parts bring the change
-module _ {heads words : List ℕ} {k w : ℕ} {c : Change} {h : Head} (s : StoredChange heads words k w c) (r : HeadAt heads k h) where
-  pub head-size : h.count ≡ length c.words
-  head-size = r.count ∙ s.size
-
-  head-brings : brought h.code h.a h.b (take (w + h.count - w) (drop w words)) ≡ c
-  head-brings =
-      let e : w + h.count - w ≡ length c.words = omega (arith, head-size) in
-      let v = ap (λ (m : ℕ). take m (drop w words)) e ∙ s.words_are in
-      λ i. brought ((r.code ∙ s.code) i) ((r.a ∙ s.a) i) ((r.b ∙ s.b) i) (v i)
-
-module _ {heads words rack₀ rack out₀ out : List ℕ} {n k w at : ℕ} (g : Going heads words n rack₀ rack out₀ out k w at) where
-  -- while k is below n, a change is left
-  pub record Turn : Type 0 where
-    pub change : Change
-    pub later : List Change
-    pub are : g.rest ≡ change ∷ later
-    pub lines : LineChange change × All LineChange later
-    pub next : StoredChange heads words k w change
-
-  -- the heads and the words that are left begin with those of the first change that is left
-  module _ {c : Change} {cs : List Change} (e : g.rest ≡ c ∷ cs) where
-    heads-split : drop (4 * k) heads ≡ head_of c ++ (texts head_of cs ++ g.heads-rest)
-    unfolding texts
-    heads-split = g.heads-are ∙ ap (λ (l : List Change). texts head_of l ++ g.heads-rest) e
-
-    words-split : drop w words ≡ c.words ++ (texts words_of cs ++ g.words-rest)
-    unfolding texts
-    words-split =
-        g.words_are
-        ∙ ap (λ (l : List Change). texts words_of l ++ g.words-rest) e
-        ∙ append_assoc c.words (texts words_of cs) g.words-rest
-
-    next_of : StoredChange heads words k w c
-    next_of =
-        let h = heads-split in
-        let v = words-split in
-        let nth : (j : ℕ) → get_or heads (4 * k + j) 0 ≡ get_or (head_of c ++ (texts head_of cs ++ g.heads-rest)) j 0 =
-        λ j. sym (get_or-drop (4 * k) heads j 0) ∙ ap (λ (l : List ℕ). get_or l j 0) h in
-        record {
-          code = ap (λ (j : ℕ). get_or heads j 0) (sym (add-zero (4 * k))) ∙ nth 0;
-          a = nth 1;
-          b = nth 2;
-          size = nth 3;
-          words_are = ap (take (length c.words)) v ∙ take_at c.words _ (length c.words) refl;
-          heads-within = omega (arith, length-drop (4 * k) heads, ap length h, length-append (head_of c) (texts head_of cs ++ g.heads-rest));
-          words-within = omega (arith, g.within, length-drop w words, simp length-append at (ap length v));
-        }
-
-  pub turn-of : k < n → Turn
-  turn-of h = go g.rest refl
-    where
-      go : (l : List Change) → g.rest ≡ l → Turn
-      go [] e = absurd (omega (arith, g.left, ap length e))
-      go (c ∷ cs) e = record { change = c; later = cs; are = e; lines = subst (All LineChange) e g.lines; next = next_of e }
-
+module _ {heads : List Line} {words rack₀ rack out₀ out : List ℕ} {k w at : ℕ} (g : Going heads words rack₀ rack out₀ out k w at) where
   -- what is written fits
   done-within : length g.done ≤ length out₀
   done-within = omega (arith, g.wrote.count, g.room)
@@ -172,83 +90,87 @@ module _ {heads words rack₀ rack out₀ out : List ℕ} {n k w at : ℕ} (g : 
   pub ending-room : at + ending_room ≤ length out
   ending-room = omega (arith, g.room, put-length g.wrote done-within)
 
-  module _ (t : Turn) where
+  -- The change whose turn it is has the head x.
+  module _ {x : Line} (e : drop k heads ≡ x ∷ drop (k + 1) heads) where
+    abbrev next : Change
+    next = change_of (drop w words) x
+
+    abbrev later : List Change
+    later = changes_of (drop (k + 1) heads) (drop x.count (drop w words))
+
+    kept-split : Kept (x ∷ drop (k + 1) heads) (drop w words) (next ∷ later)
+    kept-split = subst (λ (l : List Line). Kept l (drop w words) (changes_of l (drop w words))) e g.kept
+
+    lines-split : LineChange next × All LineChange later
+    lines-split = subst (λ (l : List Line). All LineChange (changes_of l (drop w words))) e g.lines
+
+    -- its words are there
+    pub words-within : w + x.count ≤ length words
+    words-within = omega (arith, g.within, length-drop w words, kept-split.0)
+
+    -- those that are lent to it
+    lent : take (w + x.count - w) (drop w words) ≡ take x.count (drop w words)
+    lent = let same : w + x.count - w ≡ x.count = omega arith in ap (λ (m : ℕ). take m (drop w words)) same
+
     -- there is room for a line, and for the ending after it
     pub line-room : at + answer_room + ending_room ≤ length out
-    line-room = omega (arith, g.room, ap length t.are, put-length g.wrote done-within)
+    line-room = omega (arith, g.room, ap length e, put-length g.wrote done-within)
 
     -- the words lent to it are few
-    pub words-few : {h : Head} → HeadAt heads k h → length (take (w + h.count - w) (drop w words)) ≤ 128
-    words-few r = omega (arith, ap (λ (x : Change). length x.words) (head-brings t.next r), t.lines.0.few)
+    pub words-few : length (take (w + x.count - w) (drop w words)) ≤ 128
+    words-few = omega (arith, ap length lent, lines-split.0.few)
 
     -- the change was made, and its line written
-    pub going-turn : {h : Head} {now last : List ℕ} {m : ℕ} → HeadAt heads k h
-        → let x = change (rules_at rack) (read low rack) (brought h.code h.a h.b (take (w + h.count - w) (drop w words))) in
-        (now ≡ write x.state) × Put (answer_line x.answer) (part at out) last m
-        → Going heads words n rack₀ now out₀ (back at out last) (k + 1) (w + h.count) (at + m)
-    unfolding texts after changes_text
-    going-turn {now = now} {m = m} r made =
-        let c : Change = t.change in
+    pub going-turn : {now last : List ℕ} {m : ℕ}
+        → let d = change (rules_at rack) (read low rack) (brought (code_of x.kind) x.a x.b (take (w + x.count - w) (drop w words))) in
+        (now ≡ write d.state) × Put (answer_line d.answer) (part at out) last m
+        → Going heads words rack₀ now out₀ (back at out last) (k + 1) (w + x.count) (at + m)
+    unfolding after changes_text
+    going-turn {now = now} {m = m} made =
         let s : State = read low rack in
-        let is = head-brings t.next r in
-        let z = head-size t.next r in
         let R : Rules = rules_at rack in
-        let e : now ≡ write (change R s c).state = made.0 ∙ ap (λ (x : Change). write (change R s x).state) is in
-        let line : List ℕ = answer_line (change R s c).answer in
-        let p = put_as _ line (ap (λ (x : Change). answer_line (change R s x).answer) is) made.1 in
-        let (ok, b, same) = sounded-read now (change R s c).state e (low_keeps s (sounded-valid g.sounded) c) in
-        let four : 4 * (k + 1) ≡ 4 * k + 4 = omega arith in
-        let few : m ≤ answer_room = omega (arith, p.count, answer-most _ (valid-figures s (sounded-valid g.sounded) c t.lines.0)) in
+        let is = ap (λ (l : List ℕ). change R s (brought (code_of x.kind) x.a x.b l)) lent in
+        let made_now : now ≡ write (change R s next).state = made.0 ∙ ap (λ (d : Changed). write d.state) is in
+        let line : List ℕ = answer_line (change R s next).answer in
+        let p = put_as _ line (ap (λ (d : Changed). answer_line d.answer) is) made.1 in
+        let (ok, b, same) = sounded-read now (change R s next).state made_now (low_keeps s (sounded-valid g.sounded) next) in
+        let few : m ≤ answer_room = omega (arith, p.count, answer-most _ (valid-figures s (sounded-valid g.sounded) next lines-split.0)) in
+        let rest : List ℕ → List Change = changes_of (drop (k + 1) heads) in
+        let d : drop x.count (drop w words) ≡ drop (w + x.count) words = drop-drop x.count w words in
         record {
-          changes = g.changes;
-          kept = g.kept;
-          count = g.count;
-          rest = t.later;
-          lines = t.lines.1;
-          left = omega (arith, g.left, ap length t.are);
-          within = omega (arith, z, t.next.words-within);
-          heads-rest = g.heads-rest;
-          heads-are = ap (λ (j : ℕ). drop j heads) four ∙ sym (drop-drop 4 (4 * k) heads) ∙ ap (drop 4) (heads-split t.are);
-          words-rest = g.words-rest;
-          words_are =
-              ap (λ (j : ℕ). drop (w + j) words) z
-              ∙ sym (drop-drop (length c.words) w words)
-              ∙ ap (drop (length c.words)) (words-split t.are)
-              ∙ drop_at c.words _ (length c.words) refl;
+          within = words-within;
+          kept = subst (λ (l : List ℕ). Kept (drop (k + 1) heads) l (rest l)) d kept-split.2;
+          lines = subst (λ (l : List ℕ). All LineChange (rest l)) d lines-split.1;
           sounded = ok;
-          leaves = g.leaves ∙ ap (after R s) t.are ∙ sym (λ i. after (rules (same i)) (b i) t.later);
+          leaves =
+              g.leaves
+              ∙ ap (λ (l : List Line). after R s (changes_of l (drop w words))) e
+              ∙ (λ i. after (rules (sym same i)) (sym b i) (rest (d i)));
           done = g.done ++ line;
           wrote = put_then g.wrote p done-within;
           whole =
               g.whole
-              ∙ ap (λ (l : List Change). g.done ++ changes_text R s l) t.are
-              ∙ sym (append_assoc g.done line (changes_text R (change R s c).state t.later))
-              ∙ sym (λ i. (g.done ++ line) ++ changes_text (rules (same i)) (b i) t.later);
-          room = omega (arith, g.room, ap length t.are, few);
+              ∙ ap (λ (l : List Line). g.done ++ changes_text R s (changes_of l (drop w words))) e
+              ∙ sym (append_assoc g.done line (changes_text R (change R s next).state later))
+              ∙ (λ i. (g.done ++ line) ++ changes_text (rules (sym same i)) (sym b i) (rest (d i)));
+          room = omega (arith, g.room, ap length e, few);
         }
 
   -- nothing is left
-  rest-none : n ≤ k → g.rest ≡ []
-  rest-none h = go g.rest refl
-    where
-      go : (l : List Change) → g.rest ≡ l → g.rest ≡ []
-      go [] e = e
-      go (c ∷ cs) e = absurd (omega (arith, g.left, ap length e, h))
+  rest-none : length heads ≤ k → changes_of (drop k heads) (drop w words) ≡ []
+  rest-none h = ap (λ (l : List Line). changes_of l (drop w words)) (drop_of_length-le heads h)
 
   -- the lines after those of the changes were written
   module _ {last : List ℕ} {m : ℕ} (p : Put (ending_text (read low rack)) (part at out) last m) where
     pub end-within : at + m ≤ length out₀
     end-within = omega (arith, g.room, p.count, ending-fits (read low rack) (sounded-valid g.sounded))
 
-    pub going_end : n ≤ k → Played heads words n rack₀ rack out₀ (back at out last) (at + m)
+    pub going_end : length heads ≤ k → Played (changes_of heads words) rack₀ rack out₀ (back at out last) (at + m)
     unfolding after changes_text ending_text
     going_end h =
         let e = rest-none h in
         let whole = g.whole ∙ ap (λ (l : List Change). g.done ++ changes_text (rules_at rack) (read low rack) l) e in
         record {
-          changes = g.changes;
-          kept = g.kept;
-          count = g.count;
           leaves = g.sounded.written ∙ ap write (sym (g.leaves ∙ ap (after (rules_at rack) (read low rack)) e));
           prints = put_as _ _ (sym whole) (put_then g.wrote p done-within);
         }

@@ -2,7 +2,7 @@
 -- Assumes nothing.
 use mathlib.Core.Path.{◌≡◌, sym, ap, ◌∙◌, subst}
 use mathlib.Core.Logic.{◌≢◌}
-use mathlib.Core.List.{List, []}
+use mathlib.Core.List.{List}
 use Prim.Native.Nat.{ℕ, ◌≤◌, ◌<◌}
 use native.Mathlib.Omega.{arith}
 use lib.Dec.{T}
@@ -21,7 +21,7 @@ use Rattle.moves.specs.Proper.{Held, RowBelow}
 use Rattle.moves.proofs.Held.{held-few, held-room, held-mate, held-owns, held-degree, held_small, nth_in}
 use Rattle.moves.proofs.Pairs.{entry_free as entry-alone}
 use Rattle.settling.specs.Settling.{running}
-use Rattle.settling.specs.declared.tally.Tally.{Tally}
+use Rattle.settling.specs.declared.progress.Progress.{Progress}
 
 -- a level is one of those that have counts
 pub level-small : {S : Shape} {bs : List ℕ} → Held S bs → (i : ℕ) → i ≤ top_at bs → i < S.levels
@@ -52,12 +52,12 @@ module _ {S : Shape} (bs : List ℕ) (h : Held S bs) (i u : ℕ) (l : u < (read 
   row-degree = held-degree h u (held_small h u l) ∙ row_below (read S bs) i u f
 
   -- the vertex at the place that the word gives
-  pub row-chosen : (words : List ℕ) (t : Tally) (k y : ℕ) → k ≡ below (read S bs) u i → NthOwned S bs u (place words t.draws k) y
-      → (y ≡ chosen words i u (running S bs [] t)) × T (near (read S bs) u i y)
-  row-chosen words t k y d n =
+  pub row-chosen : (words : List ℕ) (p : Progress) (k y : ℕ) → k ≡ below (read S bs) u i → NthOwned S bs u (place words p.tally.draws k) y
+      → (y ≡ chosen words i u (running S bs p)) × T (near (read S bs) u i y)
+  row-chosen words p k y d n =
       let s : State = read S bs in
-      let m = nth_in s h.proper bs (held-owns h) u (place words t.draws k) y (held_small h u l) n in
+      let m = nth_in s h.proper bs (held-owns h) u (place words p.tally.draws k) y (held_small h u l) n in
       let c : T (near s u i y) = subst T (f y) m.1 in
-      let p : count (near s u i) y ≡ place words t.draws (below s u i) =
-      sym (count-ext (s.owns u) (near s u i) y (λ w b. f w)) ∙ m.2 ∙ ap (place words t.draws) d in
-      (sym (chosen_at words i u (running S bs [] t) y m.0 c p), c)
+      let e : count (near s u i) y ≡ place words p.tally.draws (below s u i) =
+      sym (count-ext (s.owns u) (near s u i) y (λ w b. f w)) ∙ m.2 ∙ ap (place words p.tally.draws) d in
+      (sym (chosen_at words i u (running S bs p) y m.0 c e), c)

@@ -17,8 +17,8 @@ use Rattle.theory.proofs.Takings.{Highest, pick-highest}
 use Rattle.theory.proofs.Settling.{settle_step, settle-rest}
 use Rattle.moves.specs.Proper.{Proper, Ordered, Held}
 use Rattle.moves.proofs.Held.{proper-ranks, rules-as, held_of, held-good, held-room, held-few, held-size}
-use Rattle.settling.specs.declared.tally.Tally.{Tally}
-use Rattle.settling.specs.Settling.{queue_in, running, HoldsWaiting, Room, Left, largest_draws, largest_falls, fall_limit, take_limit}
+use Rattle.settling.specs.declared.progress.Progress.{Progress}
+use Rattle.settling.specs.Settling.{running, HoldsWaiting, Room, Left, largest_draws, largest_falls, fall_limit, take_limit}
 use Rattle.settling.proofs.News.{same_then}
 use Rattle.settling.proofs.Written.{levels-as, left-run}
 use Rattle.settling.proofs.Kept.{SameEdges, SameRun, take-kept, take-room, take_same}
@@ -44,10 +44,10 @@ pub record Takable (top : ℕ) (s : State) (i v : ℕ) : Type 0 where
   pub rank : s.rank v ≡ suc i
   pub level : i ≤ top
 
-pub taking-of : {K : Kind} (s : State) (places : List ℕ) (t : Tally) (i v : ℕ) → Proper K s → HoldsWaiting places t s
-    → pick (suc K.top) (queues_in s.rank (queue_in places t)) ≡ found i v → Takable K.top s i v
-taking-of {K} s places t i v p w e =
-    let q : Queued s.n (marks s) (queues_in s.rank (queue_in places t)) = record { all = queue_in places t; lists = w.lists; queues = refl } in
+pub taking-of : {K : Kind} (s : State) (queue : List ℕ) (i v : ℕ) → Proper K s → HoldsWaiting queue s
+    → pick (suc K.top) (queues_in s.rank queue) ≡ found i v → Takable K.top s i v
+taking-of {K} s queue i v p w e =
+    let q : Queued s.n (marks s) (queues_in s.rank queue) = record { all = queue; lists = w.lists; queues = refl } in
     let h : Highest s (suc K.top) (found i v) = subst (Highest s (suc K.top)) e (pick-highest s _ q (suc K.top)) in
     record { inside = h.0; free = h.1.0; rank = h.1.1.0; level = omega (arith, proper-ranks p v, h.1.1.0) }
 
@@ -68,16 +68,15 @@ room-others S largest left k x y h n l = omega (arith, mul-suc (suc S.most) k, a
 
 -- Before each taking: `left` more takings from the bytes and the tally on lead to where the settling of r leads, and the tally has room
 -- for them.
-pub record TakingsLeft (S : Shape) (R : Rules) (words : List ℕ) (r : Run) (width : ℕ) (bs places : List ℕ) (left : ℕ) (t : Tally) : Type 0 where
+pub record TakingsLeft (S : Shape) (R : Rules) (words : List ℕ) (r : Run) (bs : List ℕ) (left : ℕ) (p : Progress) : Type 0 where
   pub held : Held S bs
   pub same : rules_at bs ≡ R
   pub ordered : Ordered (read S bs)
-  pub holds : HoldsWaiting places t (read S bs)
-  pub long : length places ≡ width
-  pub ahead : SameRun (settle_in R words left (running S bs places t)) (settle R words r)
+  pub holds : HoldsWaiting p.queue (read S bs)
+  pub ahead : SameRun (settle_in R words left (running S bs p)) (settle R words r)
   pub lent : RoomFor S largest_draws left (length words)
-  pub draws : RoomFor S largest_draws left t.draws
-  pub falls : RoomFor S largest_falls left t.falls
+  pub draws : RoomFor S largest_draws left p.tally.draws
+  pub falls : RoomFor S largest_falls left p.tally.falls
 
 -- a settling's takings are at most as many as there are places for counts
 most-takings : {S : Shape} {bs : List ℕ} → Held S bs → (read S bs).n * suc (top_at bs) ≤ S.most * S.levels
@@ -96,73 +95,72 @@ room-all : {S : Shape} {bs : List ℕ} → Held S bs → (left : ℕ) → left �
 room-all {S} h left e =
     let few : left ≤ S.most * S.levels = rw e (most-takings h) in omega (arith, mul-le-mul_left (suc S.most) few, (held-good h).figures)
 
-pub going_start : {S : Shape} (words bs places : List ℕ) (left : ℕ) (t : Tally) → Held S bs → Ordered (read S bs) → HoldsWaiting places t (read S bs)
-    → Room (suc (length words)) 0 t → length words * 4 < 2 ^ 63 → left ≡ (read S bs).n * suc (top_at bs) → TakingsLeft S (rules_at bs) words (running S bs places t) (length places) bs places left t
+pub going_start : {S : Shape} (words bs : List ℕ) (left : ℕ) (p : Progress) → Held S bs → Ordered (read S bs) → HoldsWaiting p.queue (read S bs)
+    → Room (suc (length words)) 0 p.tally → length words * 4 < 2 ^ 63 → left ≡ (read S bs).n * suc (top_at bs)
+    → TakingsLeft S (rules_at bs) words (running S bs p) bs left p
 unfolding settle
-going_start words bs places left t h o w m lent e = record {
+going_start words bs left p h o w m lent e = record {
   held = h;
   same = refl;
   ordered = o;
   holds = w;
-  long = refl;
   ahead = rw e (record { state = refl; queues = refl; draws = refl; falls = refl });
   lent = omega (arith, room-all h left e, lent);
   draws = omega (arith, room-all h left e, lent, m.draws);
   falls = omega (arith, room-all h left e, m.falls);
 }
 
-module _ {S : Shape} {R : Rules} {words : List ℕ} {r : Run} {width : ℕ} {bs places : List ℕ} {left : ℕ} {t : Tally} (g : TakingsLeft S R words r width bs places left t) where
-  pub going-room : 1 ≤ left → Room (take_limit S) fall_limit t
+module _ {S : Shape} {R : Rules} {words : List ℕ} {r : Run} {bs : List ℕ} {left : ℕ} {p : Progress} (g : TakingsLeft S R words r bs left p) where
+  pub going-room : 1 ≤ left → Room (take_limit S) fall_limit p.tally
   going-room some = record {
-    draws = omega (arith, room-one S largest_draws left t.draws g.draws some);
-    falls = omega (arith, room-one S largest_falls left t.falls g.falls some);
+    draws = omega (arith, room-one S largest_draws left p.tally.draws g.draws some);
+    falls = omega (arith, room-one S largest_falls left p.tally.falls g.falls some);
   }
 
   -- where no taking follows, the settling is done
-  going-left : settle_in R words left (running S bs places t) ≡ running S bs places t → Left (settle R words r) bs places t
+  going-left : settle_in R words left (running S bs p) ≡ running S bs p → Left (settle R words r) bs p
   going-left e =
-      let s : SameRun (running S bs places t) (settle R words r) = rw e at g.ahead in
+      let s : SameRun (running S bs p) (settle R words r) = rw e at g.ahead in
       record {
         rack = g.held.written ∙ ap write s.state;
-        queues = levels-as places t (sym s.state) ∙ s.queues;
+        queues = levels-as p.queue (sym s.state) ∙ s.queues;
         draws = s.draws;
         falls = s.falls;
-        holds = subst (HoldsWaiting places t) s.state g.holds;
+        holds = subst (HoldsWaiting p.queue) s.state g.holds;
       }
 
   -- the pick by the settings that the bytes hold now is that by those of the start
-  same-pick : {x : Found} → pick (suc (top_at bs)) (queues_in (read S bs).rank (queue_in places t)) ≡ x
-      → pick (suc R.top) (queues_in (read S bs).rank (queue_in places t)) ≡ x
-  same-pick {x} = subst (λ (Q : Rules). pick (suc Q.top) (queues_in (read S bs).rank (queue_in places t)) ≡ x) g.same
+  same-pick : {x : Found} → pick (suc (top_at bs)) (queues_in (read S bs).rank p.queue) ≡ x
+      → pick (suc R.top) (queues_in (read S bs).rank p.queue) ≡ x
+  same-pick {x} = subst (λ (Q : Rules). pick (suc Q.top) (queues_in (read S bs).rank p.queue) ≡ x) g.same
 
-  pub going-rest : pick (suc (top_at bs)) (queues_in (read S bs).rank (queue_in places t)) ≡ none → Left (settle R words r) bs places t
-  going-rest e = going-left (settle-rest R words left (running S bs places t) (same-pick e))
+  pub going-rest : pick (suc (top_at bs)) (queues_in (read S bs).rank p.queue) ≡ none → Left (settle R words r) bs p
+  going-rest e = going-left (settle-rest R words left (running S bs p) (same-pick e))
 
-  pub going-used : left ≡ 0 → Left (settle R words r) bs places t
+  pub going-used : left ≡ 0 → Left (settle R words r) bs p
   unfolding settle_in
   going-used e = going-left (rw e refl)
 
   -- a taking
-  pub going_on : {i v : ℕ} {bs₁ places₁ : List ℕ} {t₁ : Tally} → pick (suc (top_at bs)) (queues_in (read S bs).rank (queue_in places t)) ≡ found i v → (k : ℕ) → left ≡ suc k
-      → Left (take (rules_at bs) words i v (running S bs places t)) bs₁ places₁ t₁ → length places₁ ≡ length places → TakingsLeft S R words r width bs₁ places₁ k t₁
-  going_on {i} {v} {bs₁} {places₁} {t₁} e k n l same-long =
-      let q : Run = take (rules_at bs) words i v (running S bs places t) in
-      let p : Proper (kind_at S bs) (read S bs) = g.held.proper in
-      let a : Takable (top_at bs) (read S bs) i v = taking-of (read S bs) places t i v p g.holds e in
-      let h : SameEdges (kind_at S bs) (read S bs) q.state = take-kept words i v (running S bs places t) p g.ordered a.inside a.rank a.level in
-      let m : (q.draws ≤ cap S largest_draws left + suc S.most) × (q.falls ≤ suc t.falls) =
-      take-room words i v (running S bs places t) p g.ordered a.inside a.rank a.level (omega (arith, g.lent)) (omega (arith, g.draws)) in
-      let ahead : SameRun (settle_in R words k (take R words i v (running S bs places t))) (settle R words r) → SameRun (settle_in R words k q) (settle R words r) =
-      subst (λ (Q : Rules). SameRun (settle_in R words k (take Q words i v (running S bs places t))) (settle R words r)) (sym g.same) in
-      let s : SameRun (running S bs₁ places₁ t₁) q = left-run l h.proper in
+  pub going_on : {i v : ℕ} {bs₁ : List ℕ} {p₁ : Progress} → pick (suc (top_at bs)) (queues_in (read S bs).rank p.queue) ≡ found i v → (k : ℕ) → left ≡ suc k
+      → Left (take (rules_at bs) words i v (running S bs p)) bs₁ p₁ → TakingsLeft S R words r bs₁ k p₁
+  going_on {i} {v} {bs₁} {p₁} e k n l =
+      let q : Run = take (rules_at bs) words i v (running S bs p) in
+      let proper : Proper (kind_at S bs) (read S bs) = g.held.proper in
+      let a : Takable (top_at bs) (read S bs) i v = taking-of (read S bs) p.queue i v proper g.holds e in
+      let h : SameEdges (kind_at S bs) (read S bs) q.state = take-kept words i v (running S bs p) proper g.ordered a.inside a.rank a.level in
+      let m : (q.draws ≤ cap S largest_draws left + suc S.most) × (q.falls ≤ suc p.tally.falls) =
+      take-room words i v (running S bs p) proper g.ordered a.inside a.rank a.level (omega (arith, g.lent)) (omega (arith, g.draws)) in
+      let ahead : SameRun (settle_in R words k (take R words i v (running S bs p))) (settle R words r) → SameRun (settle_in R words k q) (settle R words r) =
+      subst (λ (Q : Rules). SameRun (settle_in R words k (take Q words i v (running S bs p))) (settle R words r)) (sym g.same) in
+      let s : SameRun (running S bs₁ p₁) q = left-run l h.proper in
       record {
         held = held_of bs₁ q.state l.rack h.proper;
         same = rules-as bs₁ q.state l.rack h.proper ∙ g.same;
         ordered = subst Ordered (sym s.state) h.ordered;
-        holds = subst (HoldsWaiting places₁ t₁) (sym s.state) l.holds;
-        long = same-long ∙ g.long;
-        ahead = same_then (settle-same R words k (running S bs₁ places₁ t₁) q s) (ahead (rw (n, settle_step R words k i v (running S bs places t) (same-pick e)) at g.ahead));
+        holds = subst (HoldsWaiting p₁.queue) (sym s.state) l.holds;
+        ahead = same_then (settle-same R words k (running S bs₁ p₁) q s) (ahead (rw (n, settle_step R words k i v (running S bs p) (same-pick e)) at g.ahead));
         lent = room-others S largest_draws left k (length words) (length words) g.lent n (omega (arith, g.lent));
-        draws = room-others S largest_draws left k t.draws t₁.draws g.draws n (omega (arith, l.draws, m.0));
-        falls = room-others S largest_falls left k t.falls t₁.falls g.falls n (omega (arith, l.falls, m.1, g.falls));
+        draws = room-others S largest_draws left k p.tally.draws p₁.tally.draws g.draws n (omega (arith, l.draws, m.0));
+        falls = room-others S largest_falls left k p.tally.falls p₁.tally.falls g.falls n (omega (arith, l.falls, m.1, g.falls));
       }

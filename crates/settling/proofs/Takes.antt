@@ -7,42 +7,39 @@ use mathlib.Core.List.{List}
 use Prim.Native.Nat.{ℕ, zero, suc, ◌≤◌, ◌<◌, ◌^◌}
 use native.Mathlib.Omega.{arith}
 use lib.Dec.{T}
-use lib.ListN.{length, take as first}
 use Rattle.model.specs.Shape.{Shape}
 use Rattle.model.specs.State.{Kind, Rules, State, below, phi}
 use Rattle.model.specs.Bytes.{rules_at, kind_at, growth_at, top_at, read, write}
-use Rattle.model.specs.Moves.{Run, join, without, handed, hand_over, fall, draw, due, scan_from, take}
+use Rattle.model.specs.Moves.{Run, without, handed, hand_over, fall, draw, due, scan_from, take}
 use Rattle.model.proofs.Tests.{holds?}
-use Rattle.theory.specs.Waiting.{queues_in, join_queue}
+use Rattle.theory.specs.Waiting.{join_queue}
 use Rattle.theory.proofs.Loops.{scan_upto, scan_from-loop}
 use Rattle.moves.specs.Proper.{Ordered, Held, RowBelow, ranked}
 use Rattle.moves.proofs.Held.{proper-pos, kind-as, top-as, rules-as, reads_as, held_of}
 use Rattle.moves.proofs.Keeps.{hand-row, ranked-row}
-use Rattle.settling.specs.Settling.{queue_in, running, HoldsWaitingBut, HoldsWaiting, Falling, Left, visited, draw_limit, take_limit}
-use Rattle.settling.specs.declared.tally.Tally.{Tally}
+use Rattle.settling.specs.Settling.{running, HoldsWaitingBut, HoldsWaiting, Falling, Left, visited, draw_limit, take_limit}
+use Rattle.settling.specs.declared.progress.Progress.{Progress}
 use Rattle.settling.proofs.Steps.{hand-kept, fall-kept, due-reached}
 use Rattle.settling.proofs.News.{draw-same, fall-same, scan_from-same, visited-no, upto-none, upto-yes, upto-no}
 use Rattle.settling.proofs.Kept.{SameEdges, SameRun, take-draws, take-falls}
-use Rattle.settling.proofs.Requeuing.{Requeued}
 use Rattle.settling.proofs.Holding.{left-holds, left-levels, fallen-holds, fallen-levels}
-use Rattle.settling.proofs.Written.{Draws, draws-of, levels-as, left-same}
+use Rattle.settling.proofs.Written.{Draws, draws-of, levels-as, left-same, requeued}
 
--- v, waiting at level i, has left the queue and handed its edges of that level on, and k vertices are below: bs, places and t before, b,
--- places' and t' after
-pub record Handed (S : Shape) (bs places : List ℕ) (t : Tally) (i v k : ℕ) (b places' : List ℕ) (t' : Tally) : Type 0 where
+-- v, waiting at level i, has left the queue and handed its edges of that level on, and k vertices are below: bs and p before, b and the queue
+-- after
+pub record Handed (S : Shape) (bs : List ℕ) (p : Progress) (i v k : ℕ) (b queue : List ℕ) : Type 0 where
   pub held : Held S bs
   pub ordered : Ordered (read S bs)
   pub inside : v < (read S bs).n
   pub free : (read S bs).mate v ≡ v
   pub rank : (read S bs).rank v ≡ suc i
   pub level : i ≤ top_at bs
-  pub holds : HoldsWaiting places t (read S bs)
-  pub left : Requeued (without v (queue_in places t)) t places' t'
-  pub long : length places' ≡ length places
+  pub holds : HoldsWaiting p.queue (read S bs)
+  pub left : queue ≡ without v p.queue
   pub bytes : b ≡ write (hand_over i v (read S bs))
   pub size : k ≡ below (hand_over i v (read S bs)) v i
 
-module _ {S : Shape} {bs places : List ℕ} {t : Tally} {i v k : ℕ} {b places' : List ℕ} {t' : Tally} (a : Handed S bs places t i v k b places' t') where
+module _ {S : Shape} {bs : List ℕ} {p : Progress} {i v k : ℕ} {b queue : List ℕ} (a : Handed S bs p i v k b queue) where
   handed-kept : SameEdges (kind_at S bs) (read S bs) (hand_over i v (read S bs))
   handed-kept = hand-kept (read S bs) a.held.proper a.ordered i v a.inside a.rank
 
@@ -66,14 +63,12 @@ module _ {S : Shape} {bs places : List ℕ} {t : Tally} {i v k : ℕ} {b places'
   handed-row = hand-row (read S bs) a.held.proper i v a.ordered a.rank
 
   -- a hand-over changes no mate and no rank
-  handed-holds : HoldsWaitingBut v places' t' (hand_over i v (read S bs))
+  handed-holds : HoldsWaitingBut v queue (hand_over i v (read S bs))
   unfolding hand_over
-  handed-holds =
-      let h : HoldsWaitingBut v places' t' (read S bs) = left-holds t' a.long a.holds a.left.is in
-      record { room = h.room; within = h.within; lists = h.lists; paired = h.paired }
+  handed-holds = let h : HoldsWaitingBut v queue (read S bs) = left-holds (read S bs) p.queue a.holds a.left in record { lists = h.lists; paired = h.paired }
 
-  pub handed-waits : HoldsWaitingBut v places' t' (read S b)
-  handed-waits = subst (HoldsWaitingBut v places' t') (sym handed-read) handed-holds
+  pub handed-waits : HoldsWaitingBut v queue (read S b)
+  handed-waits = subst (HoldsWaitingBut v queue) (sym handed-read) handed-holds
 
   pub handed-falls : {bar : ℕ} → bar ≡ growth_at b ^ i → Falling S b i v k bar
   unfolding hand_over
@@ -87,47 +82,43 @@ module _ {S : Shape} {bs places : List ℕ} {t : Tally} {i v k : ℕ} {b places'
     barred = e;
   }
 
-  pub handed-draws : growth_at bs ^ i ≤ k → t.draws ≤ draw_limit → Draws S b i v k places' t' (read S b)
+  pub handed-draws : growth_at bs ^ i ≤ k → p.tally.draws ≤ draw_limit → Draws S b i v k (requeued p queue) (read S b)
   unfolding hand_over
   handed-draws n x =
-      draws-of (hand_over i v (read S bs)) a.bytes handed-kept.proper i v k t' (
+      draws-of (hand_over i v (read S bs)) a.bytes handed-kept.proper i v k (requeued p queue) (
         (handed-held.0, handed-kept.ordered),
         (
           (a.inside, a.free, a.rank, omega (arith, a.level, handed-top)),
-          ((handed-row, omega (arith, proper-pos a.held.proper i, a.size), a.size), (handed-holds, omega (arith, a.left.draws))),
+          ((handed-row, omega (arith, proper-pos a.held.proper i, a.size), a.size), (handed-holds, x)),
         ),
       )
 
   -- the run that goes on from there is the definition's
-  handed-run : SameRun (running S b places' t') (handed i v (running S bs places t))
+  handed-run : SameRun (running S b (requeued p queue)) (handed i v (running S bs p))
   unfolding hand_over
-  handed-run = record {
-    state = handed-read;
-    queues = levels-as places' t' handed-read ∙ left-levels t' a.long v a.holds a.left.is;
-    draws = a.left.draws;
-    falls = a.left.falls;
-  }
+  handed-run = record { state = handed-read; queues = levels-as queue handed-read ∙ left-levels (read S bs) p.queue v a.left; draws = refl; falls = refl }
 
-  pub taken-draws : (words : List ℕ) {places'' d : List ℕ} {r : Tally} → growth_at bs ^ i ≤ k
-      → Left (draw words i v (running S b places' t')) d places'' r → Left (take (rules_at bs) words i v (running S bs places t)) d places'' r
+  pub taken-draws : (words : List ℕ) {d : List ℕ} {r : Progress} → growth_at bs ^ i ≤ k
+      → Left (draw words i v (running S b (requeued p queue))) d r → Left (take (rules_at bs) words i v (running S bs p)) d r
   taken-draws words n c =
-      rw (take-draws (rules_at bs) words i v (running S bs places t) (omega (arith, a.size))) (left-same (draw-same words i v handed-run) c)
+      rw (take-draws (rules_at bs) words i v (running S bs p) (omega (arith, a.size))) (left-same (draw-same words i v handed-run) c)
 
-  pub taken-falls : (words : List ℕ) {places'' d : List ℕ} {r : Tally} → k < growth_at bs ^ i
-      → Left (scan_from (rules_at b) words i v (fall i v (running S b places' t'))) d places'' r → Left (take (rules_at bs) words i v (running S bs places t)) d places'' r
-  taken-falls words {places''} {d} {r} n c =
-      rw (take-falls (rules_at bs) words i v (running S bs places t) (omega (arith, a.size)))
+  pub taken-falls : (words : List ℕ) {d : List ℕ} {r : Progress} → k < growth_at bs ^ i
+      → Left (scan_from (rules_at b) words i v (fall i v (running S b (requeued p queue)))) d r → Left (take (rules_at bs) words i v (running S bs p)) d r
+  taken-falls words {d} {r} n c =
+      rw (take-falls (rules_at bs) words i v (running S bs p) (omega (arith, a.size)))
       (left-same (scan_from-same (rules_at bs) words i v (fall-same i v handed-run))
-      (subst (λ (R : Rules). Left (scan_from R words i v (fall i v (running S b places' t'))) d places'' r) handed-rules c))
+      (subst (λ (R : Rules). Left (scan_from R words i v (fall i v (running S b (requeued p queue)))) d r) handed-rules c))
 
--- v has fallen from level i and has joined the end of its new level: bs, places and t before, b, places' and t' after
-pub record Fallen (S : Shape) (bs places : List ℕ) (t : Tally) (i v k bar : ℕ) (b places' : List ℕ) (t' : Tally) : Type 0 where
+-- v has fallen from level i and has joined the end of its new level: bs and p before, b and p' after
+pub record Fallen (S : Shape) (bs : List ℕ) (p : Progress) (i v k bar : ℕ) (b : List ℕ) (p' : Progress) : Type 0 where
   pub held : Held S bs
   pub ordered : Ordered (read S bs)
   pub falls : Falling S bs i v k bar
-  pub holds : HoldsWaitingBut v places t (read S bs)
-  pub joined : Requeued (join_queue v i (queue_in places t)) t places' t'
-  pub long : length places' ≡ length places
+  pub holds : HoldsWaitingBut v p.queue (read S bs)
+  pub joined : p'.queue ≡ join_queue v i p.queue
+  pub draws : p'.tally.draws ≡ p.tally.draws
+  pub more : p'.tally.falls ≡ suc p.tally.falls
   pub bytes : b ≡ write (ranked v i (read S bs))
 
 -- where nobody of the row is due, nothing happens in the scan
@@ -142,11 +133,12 @@ upto-quiet R words i p (suc m) r h =
     ]
 
 -- what the scan after a fall asks
-abbrev pub Scans : Shape → List ℕ → ℕ → ℕ → ℕ → List ℕ → Tally → State → Type 0
-Scans S b i v bar places t s =
-    (Held S b × Ordered s) × (((v < s.n) × (i ≤ top_at b) × RowBelow i v s × (bar ≡ growth_at b ^ i)) × (HoldsWaiting places t s × (t.draws ≤ take_limit S)))
+abbrev pub Scans : Shape → List ℕ → ℕ → ℕ → ℕ → Progress → State → Type 0
+Scans S b i v bar p s =
+    (Held S b × Ordered s)
+    × (((v < s.n) × (i ≤ top_at b) × RowBelow i v s × (bar ≡ growth_at b ^ i)) × (HoldsWaiting p.queue s × (p.tally.draws ≤ take_limit S)))
 
-module _ {S : Shape} {bs places : List ℕ} {t : Tally} {i v k bar : ℕ} {b places' : List ℕ} {t' : Tally} (a : Fallen S bs places t i v k bar b places' t') where
+module _ {S : Shape} {bs : List ℕ} {p : Progress} {i v k bar : ℕ} {b : List ℕ} {p' : Progress} (a : Fallen S bs p i v k bar b p') where
   fallen-kept : SameEdges (kind_at S bs) (read S bs) (ranked v i (read S bs))
   fallen-kept = fall-kept (read S bs) a.held.proper a.ordered i v a.falls.inside a.falls.rank a.falls.row
 
@@ -160,9 +152,9 @@ module _ {S : Shape} {bs places : List ℕ} {t : Tally} {i v k bar : ℕ} {b pla
   fallen-rules : rules_at b ≡ rules_at bs
   fallen-rules = rules-as b (ranked v i (read S bs)) a.bytes fallen-kept.proper
 
-  pub fallen-scans : t.draws ≤ take_limit S → Scans S b i v bar places' t' (read S b)
+  pub fallen-scans : p.tally.draws ≤ take_limit S → Scans S b i v bar p' (read S b)
   fallen-scans x =
-      subst (Scans S b i v bar places' t') (sym fallen-read) (
+      subst (Scans S b i v bar p') (sym fallen-read) (
         (held_of b (ranked v i (read S bs)) a.bytes fallen-kept.proper, fallen-kept.ordered),
         (
           (
@@ -171,33 +163,33 @@ module _ {S : Shape} {bs places : List ℕ} {t : Tally} {i v k bar : ℕ} {b pla
             ranked-row (read S bs) a.held.proper i v i a.falls.row,
             a.falls.barred ∙ sym (ap (λ (R : Rules). R.thr i) fallen-rules),
           ),
-          (fallen-holds t' a.long a.holds i a.joined.is a.falls.inside a.falls.free, omega (arith, a.joined.draws)),
+          (fallen-holds (read S bs) p.queue a.holds i a.joined a.falls.inside a.falls.free, omega (arith, a.draws)),
         ),
       )
 
   -- the run that goes on from there is the definition's
-  module _ (t₀ : Tally) (e : (t.draws ≡ t₀.draws) × (t.falls ≡ suc t₀.falls) × (t.waiting ≡ t₀.waiting)) where
-    fallen-run : SameRun (running S b places' t') (fall i v (running S bs places t₀))
-    unfolding fall ranked
-    fallen-run = record {
-      state = fallen-read;
-      queues = levels-as places' t' fallen-read ∙ fallen-levels t' a.long a.holds i a.joined.is a.falls.inside a.falls.free
-          ∙ ap (λ (x : ℕ). join v i (queues_in (read S bs).rank (first x places))) e.2;
-      draws = omega (arith, a.joined.draws, e.0);
-      falls = omega (arith, a.joined.falls, e.1);
-    }
+  fallen-run : SameRun (running S b p') (fall i v (running S bs p))
+  unfolding fall ranked
+  fallen-run = record {
+    state = fallen-read;
+    queues = levels-as p'.queue fallen-read ∙ fallen-levels (read S bs) p.queue a.holds i a.joined a.falls.inside a.falls.free;
+    draws = a.draws;
+    falls = a.more;
+  }
 
-    pub fallen-left : (words : List ℕ) {places'' d : List ℕ} {r : Tally} → Left (scan_from (rules_at b) words i v (running S b places' t')) d places'' r
-        → Left (scan_from (rules_at bs) words i v (fall i v (running S bs places t₀))) d places'' r
-    fallen-left words {places''} {d} {r} c =
-        left-same (scan_from-same (rules_at bs) words i v fallen-run) (subst (λ (R : Rules). Left (scan_from R words i v (running S b places' t')) d places'' r) fallen-rules c)
+  pub fallen-left : (words : List ℕ) {d : List ℕ} {r : Progress} → Left (scan_from (rules_at b) words i v (running S b p')) d r
+      → Left (scan_from (rules_at bs) words i v (fall i v (running S bs p))) d r
+  fallen-left words {d} {r} c =
+      left-same (scan_from-same (rules_at bs) words i v fallen-run) (subst (λ (R : Rules). Left (scan_from R words i v (running S b p')) d r) fallen-rules c)
 
-    -- all counts at i are below the threshold: nobody rises
-    pub fallen-low : (words : List ℕ) → ((w : ℕ) → T ((read S bs).owns v w) → phi (ranked v i (read S bs)) w i < bar) → t.draws ≤ take_limit S
-        → Left (scan_from (rules_at bs) words i v (fall i v (running S bs places t₀))) b places' t'
-    unfolding fall ranked
-    fallen-low words low x =
-        let g = fallen-scans x in
-        let r : Run = fall i v (running S bs places t₀) in
-        rw (scan_from-loop (rules_at bs) words i v r ∙ upto-quiet (rules_at bs) words i ((read S bs).owns v) (read S bs).n r (λ w o u. omega (arith, low w o, a.falls.barred, due-reached (rules_at bs) i w r.state u)))
-        (left-same fallen-run (record { rack = g.0.0.written; queues = refl; draws = refl; falls = refl; holds = g.1.1.0 }))
+  -- all counts at i are below the threshold: nobody rises
+  pub fallen-low : (words : List ℕ) → ((w : ℕ) → T ((read S bs).owns v w) → phi (ranked v i (read S bs)) w i < bar) → p.tally.draws ≤ take_limit S
+      → Left (scan_from (rules_at bs) words i v (fall i v (running S bs p))) b p'
+  unfolding fall ranked
+  fallen-low words low x =
+      let g = fallen-scans x in
+      let r : Run = fall i v (running S bs p) in
+      let quiet : (w : ℕ) → T ((read S bs).owns v w) → T (due (rules_at bs) i w r.state) → ⊥ =
+      λ w o u. omega (arith, low w o, a.falls.barred, due-reached (rules_at bs) i w r.state u) in
+      rw (scan_from-loop (rules_at bs) words i v r ∙ upto-quiet (rules_at bs) words i ((read S bs).owns v) (read S bs).n r quiet)
+      (left-same fallen-run (record { rack = g.0.0.written; queues = refl; draws = refl; falls = refl; holds = g.1.1.0 }))

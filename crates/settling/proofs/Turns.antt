@@ -12,7 +12,7 @@ use Rattle.model.proofs.Tests.{and_intro, and_left, and_right}
 use Rattle.moves.specs.Proper.{Held}
 use Rattle.moves.proofs.Held.{held-rank, held-phi, held_small}
 use Rattle.settling.specs.Settling.{running, HoldsWaiting, Left, visited}
-use Rattle.settling.specs.declared.tally.Tally.{Tally}
+use Rattle.settling.specs.declared.progress.Progress.{Progress}
 use Rattle.settling.proofs.News.{visited-yes, visited-no}
 
 -- the bytes hold a state, of which w is a vertex
@@ -43,12 +43,12 @@ module _ {S : Shape} {bs : List ℕ} {i w : ℕ} (a : Visiting S bs i w) where
       (le→leb ((read S bs).rank w) i (omega (arith, turn-rank))) (le→leb (growth_at bs ^ i) (phi (read S bs) w i) (omega (arith, turn-phi)))
 
   -- a vertex that is not due is passed over
-  pub turn-passed : (words : List ℕ) {places : List ℕ} (t : Tally) → HoldsWaiting places t (read S bs) → (T (due (rules_at bs) i w (read S bs)) → ⊥)
-      → Left (visited (rules_at bs) words i w (running S bs places t)) bs places t
-  turn-passed words {places} t c n =
-      rw (visited-no (rules_at bs) words i w (running S bs places t) n)
+  pub turn-passed : (words : List ℕ) (p : Progress) → HoldsWaiting p.queue (read S bs) → (T (due (rules_at bs) i w (read S bs)) → ⊥)
+      → Left (visited (rules_at bs) words i w (running S bs p)) bs p
+  turn-passed words p c n =
+      rw (visited-no (rules_at bs) words i w (running S bs p) n)
       (record { rack = a.held.written; queues = refl; draws = refl; falls = refl; holds = c })
 
-  pub turn-promoted : (words places : List ℕ) {places' d : List ℕ} (t : Tally) {r : Tally} → T (due (rules_at bs) i w (read S bs))
-      → Left (promote words i w (running S bs places t)) d places' r → Left (visited (rules_at bs) words i w (running S bs places t)) d places' r
-  turn-promoted words places t n c = rw (visited-yes (rules_at bs) words i w (running S bs places t) n) c
+  pub turn-promoted : (words : List ℕ) {d : List ℕ} (p : Progress) {r : Progress} → T (due (rules_at bs) i w (read S bs))
+      → Left (promote words i w (running S bs p)) d r → Left (visited (rules_at bs) words i w (running S bs p)) d r
+  turn-promoted words p n c = rw (visited-yes (rules_at bs) words i w (running S bs p) n) c

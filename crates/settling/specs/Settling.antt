@@ -1,6 +1,6 @@
 -- A run of moves, seen from the code: the rack's bytes, the queue of the vertices that wait, and the tally. The new pairs are no part of
 -- them. Assumes nothing.
-use Rattle.std.specs.Prelude.{◌≡◌, ◌≢◌, true, false, List, [], ℕ, suc, ◌-◌, ◌^◌, ◌≤◌, ◌<◌, length, take}
+use Rattle.std.specs.Prelude.{◌≡◌, ◌≢◌, true, false, List, [], ℕ, suc, ◌-◌, ◌^◌, ◌≤◌, ◌<◌, length, Option, None, Some}
 use Rattle.model.specs.Lists.{Mem, Distinct, Lists}
 use Rattle.model.specs.Shape.{Shape}
 use Rattle.model.specs.State.{Rules, State, below}
@@ -9,51 +9,37 @@ use Rattle.model.specs.Moves.{Run, due, promote, Found, none, found}
 use Rattle.theory.specs.Waiting.{marks, Waits, Paired, queues_in}
 use Rattle.moves.specs.Proper.{RowBelow}
 use Rattle.settling.specs.declared.tally.Tally.{Tally}
-use Rattle.settling.specs.declared.Choice.{Choice}
-use Rattle.settling.specs.declared.Choice.TheVariants.{At, Nothing}
-
--- those in the queue: the first of the places lent, as many as the tally says
-abbrev pub queue_in : List ℕ → Tally → List ℕ
-queue_in places t = take t.waiting places
+use Rattle.settling.specs.declared.progress.Progress.{Progress}
+use Rattle.settling.specs.declared.Next.{Next}
 
 -- the run that goes on from the bytes, the queue and the tally
-abbrev pub running : Shape → List ℕ → List ℕ → Tally → Run
-running S bs places t = record {
+abbrev pub running : Shape → List ℕ → Progress → Run
+running S bs p = record {
   state = read S bs;
-  queues = queues_in (read S bs).rank (queue_in places t);
+  queues = queues_in (read S bs).rank p.queue;
   news = [];
-  draws = t.draws;
-  falls = t.falls;
+  draws = p.tally.draws;
+  falls = p.tally.falls;
 }
 
--- the queue holds exactly the vertices of which W holds, and there are places for all
-pub record HoldsOnly (W : ℕ → Type 0) (places : List ℕ) (t : Tally) (s : State) : Type 0 where
-  pub room : s.n ≤ length places
-  pub within : t.waiting ≤ length places
-  pub lists : Lists W (queue_in places t)
+-- the queue holds exactly the vertices of which W holds
+pub record HoldsOnly (W : ℕ → Type 0) (queue : List ℕ) (s : State) : Type 0 where
+  pub lists : Lists W queue
   pub paired : Paired s.n (marks s)
 
 -- .. exactly the vertices that wait
-abbrev pub HoldsWaiting : List ℕ → Tally → State → Type 0
-HoldsWaiting places t s = HoldsOnly (Waits s.n (marks s)) places t s
+abbrev pub HoldsWaiting : List ℕ → State → Type 0
+HoldsWaiting queue s = HoldsOnly (Waits s.n (marks s)) queue s
 
 -- .. but for u, which is about to draw or to fall
-abbrev pub HoldsWaitingBut : ℕ → List ℕ → Tally → State → Type 0
-HoldsWaitingBut u places t s = HoldsOnly (λ v. Waits s.n (marks s) v × (v ≢ u)) places t s
+abbrev pub HoldsWaitingBut : ℕ → List ℕ → State → Type 0
+HoldsWaitingBut u queue s = HoldsOnly (λ v. Waits s.n (marks s) v × (v ≢ u)) queue s
 
--- v can be parted, where k wait: without a mate it stands in the queue exactly if it waits, and for a mate there is a place
-pub record CanPart (s : State) (v : ℕ) (places : List ℕ) (k : ℕ) : Type 0 where
-  pub within : k ≤ length places
-  pub once : Distinct (take k places)
-  pub stands : s.mate v ≡ v → 1 ≤ s.rank v → Mem v (take k places)
-  pub absent : s.rank v ≡ 0 → Mem v (take k places) → ⊥
-  pub lent : s.n ≤ length places
-  pub room : s.mate v ≢ v → (1 ≤ s.rank (s.mate v)) × (k < s.n)
-
--- the queue is l, and k wait
-pub record QueueIs (l places : List ℕ) (k : ℕ) : Type 0 where
-  pub queue : take k places ≡ l
-  pub within : k ≤ length places
+-- v can be parted: at level -1 it doesn't stand in the queue, and for a mate, which then waits, there is a place
+pub record CanPart (s : State) (v : ℕ) (queue : List ℕ) : Type 0 where
+  pub once : Distinct queue
+  pub absent : s.rank v ≡ 0 → Mem v queue → ⊥
+  pub room : s.mate v ≢ v → (1 ≤ s.rank (s.mate v)) × (length queue < s.n)
 
 -- v, which is free, can fall from level i, whose threshold is the bar: it owns edges to vertices below i alone, k of them
 pub record Falling (S : Shape) (bs : List ℕ) (i v k bar : ℕ) : Type 0 where
@@ -88,18 +74,18 @@ pub record Room (d f : ℕ) (t : Tally) : Type 0 where
   pub falls : t.falls ≤ f
 
 -- what a run leaves: the rack's bytes, the queue that holds every vertex that waits, and the tally
-pub record Left (r : Run) (bs places : List ℕ) (t : Tally) : Type 0 where
+pub record Left (r : Run) (bs : List ℕ) (p : Progress) : Type 0 where
   pub rack : bs ≡ write r.state
-  pub queues : queues_in r.state.rank (queue_in places t) ≡ r.queues
-  pub draws : t.draws ≡ r.draws
-  pub falls : t.falls ≡ r.falls
-  pub holds : HoldsWaiting places t r.state
+  pub queues : queues_in r.state.rank p.queue ≡ r.queues
+  pub draws : p.tally.draws ≡ r.draws
+  pub falls : p.tally.falls ≡ r.falls
+  pub holds : HoldsWaiting p.queue r.state
 
 -- a vertex's turn in the scan after a fall
 unfoldable pub visited : Rules → List ℕ → ℕ → ℕ → Run → Run
 visited R words i w r = elim (due R i w r.state) [ true ↦ promote words i w r | false ↦ r ]
 
 -- what a pick finds, as the definition names it
-abbrev pub found_by : Choice → Found
-found_by Nothing = none
-found_by (At i v) = found i v
+abbrev pub found_by : Option Next → Found
+found_by None = none
+found_by (Some next) = found next.level next.vertex

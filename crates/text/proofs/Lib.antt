@@ -2,8 +2,8 @@
 pub mod Decimals
 pub mod Standing
 pub mod Begun
-pub mod Fours
 pub mod Over
+pub mod Fours
 pub mod Writers
 pub mod Texts
 pub mod Lengths

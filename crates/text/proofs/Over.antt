@@ -68,15 +68,7 @@ back_is n w last =
     let none : length (drop n w) ≤ length w - n = omega (arith, length-drop n w) in
     ap (λ (l : List ℕ). take n w ++ (last ++ l)) (drop_of_length-le (drop n w) none) ∙ ap (λ (l : List ℕ). take n w ++ l) (append-nil last)
 
--- the whole keeps its length
-pub length_back : (n : ℕ) (w last : List ℕ) → n ≤ length w → length last ≡ length (part n w) → length (back n w last) ≡ length w
-length_back n w last h e =
-    ap length (back_is n w last) ∙ length-append (take n w) last ∙ omega (arith, length-take-le n w h, e, length_part n w)
-
--- what stands before n in the whole, and from n on
-pub take_back : (n : ℕ) (w last : List ℕ) → n ≤ length w → take n (back n w last) ≡ take n w
-take_back n w last h = ap (take n) (back_is n w last) ∙ take_at (take n w) last n (length-take-le n w h)
-
+-- what stands from n on in the whole
 pub drop-back : (n : ℕ) (w last : List ℕ) → n ≤ length w → drop n (back n w last) ≡ last
 drop-back n w last h = ap (drop n) (back_is n w last) ∙ drop_at (take n w) last n (length-take-le n w h)
 

@@ -1,7 +1,10 @@
 -- What stands at a position of a text while a number or a fixed text is read there. Assumes nothing.
-use Rattle.std.proofs.Common.{◌≡◌, ℕ, ◌+◌, ◌-◌, ◌<◌, ◌≤◌, List, [], ◌∷◌, ◌++◌, length, get_or, take, drop, sym, ap, ◌∙◌, append_assoc, add-zero, add-one, arith, length-append, length-drop, drop_of_length-le, get_or-drop, drop-cons, take-suc}
+use Rattle.std.proofs.Common.{◌≡◌, ℕ, ◌+◌, ◌-◌, ◌<◌, ◌≤◌, List, [], ◌∷◌, ◌++◌, length, get_or, take, drop, sym, ap, ◌∙◌, append_assoc, add-zero, add-one, arith, length-append, length-drop, drop_of_length-le, get_or-drop, drop-cons, take-suc, take-append-drop, drop-drop}
 use lib.ListN.{get_or-append}
+use lib.Seq.{take-add}
+use Rattle.std.proofs.lemmas.List.{drop-append-le, take-append-le}
 use Rattle.text.specs.Number.{is_digit, NoDigit}
+use Rattle.text.specs.Literal.{Starts}
 use Rattle.text.proofs.Decimals.{digit-below}
 
 -- A number at a position of a text.
@@ -29,6 +32,23 @@ literal-turn s at p k e h l b =
     (drop_more s (at + k) l ∙ ap (λ (x : ℕ). x ∷ drop ((at + k) + 1) s) b ∙ ap (λ (m : ℕ). get_or p k 0 ∷ drop m s) n)
     ∙ sym (append_assoc (take k p) (get_or p k 0 ∷ []) (drop (at + (k + 1)) s))
     ∙ ap (λ (u : List ℕ). u ++ drop (at + (k + 1)) s) (sym (take-suc p k 0 h) ∙ ap (λ (m : ℕ). take m p) (sym (add-one k)))
+
+-- m bytes more of p
+pub literal-more : (s : List ℕ) (at : ℕ) (p : List ℕ) (k m : ℕ) → Starts s at p k → take m (drop (at + k) s) ≡ take m (drop k p) → Starts s at p (k + m)
+literal-more s at p k m e h =
+    let left = drop (at + k) s in
+    let after : drop m left ≡ drop (at + (k + m)) s = drop-drop m (at + k) s ∙ ap (λ (n : ℕ). drop n s) (omega arith) in
+    e
+    ∙ ap (λ (u : List ℕ). take k p ++ u) (sym (take-append-drop m left) ∙ (λ i. h i ++ after i))
+    ∙ sym (append_assoc (take k p) (take m (drop k p)) (drop (at + (k + m)) s))
+    ∙ ap (λ (u : List ℕ). u ++ drop (at + (k + m)) s) (sym (take-add k m p))
+
+-- where p stands, so do any bytes of it
+pub literal-part : (s : List ℕ) (at : ℕ) (p : List ℕ) (k m : ℕ) (rest : List ℕ) → k + m ≤ length p → drop at s ≡ p ++ rest
+    → take m (drop (at + k) s) ≡ take m (drop k p)
+literal-part s at p k m rest h e =
+    ap (take m) (sym (drop-drop k at s) ∙ ap (drop k) e ∙ drop-append-le k p rest (omega (arith, h)))
+    ∙ take-append-le m (drop k p) rest (omega (arith, length-drop k p, h))
 
 -- where p stands, its bytes do
 pub literal-same : (s : List ℕ) (at : ℕ) (p : List ℕ) (k : ℕ) (rest : List ℕ) → k < length p → drop at s ≡ p ++ rest → get_or s (at + k) 0 ≡ get_or p k 0

@@ -1,8 +1,6 @@
 -- What it means that a number stands at a position of a text. Assumes nothing.
-use Rattle.std.specs.Prelude.{◌≡◌, ℕ, ◌+◌, ◌*◌, ◌^◌, ◌<◌, ◌≤◌, Bool, false, cond, List, ◌++◌, length, drop, nat_le, slice_index}
+use Rattle.std.specs.Prelude.{◌≡◌, ℕ, ◌+◌, ◌*◌, ◌^◌, ◌<◌, ◌≤◌, Bool, false, cond, List, ◌++◌, length, drop, Option, None, Some, nat_le, slice_index}
 use Rattle.model.specs.Text.{decimal, largest}
-use Rattle.text.specs.declared.Number.{Number}
-use Rattle.text.specs.declared.Number.TheVariants.{Value, NoNumber}
 
 -- whether a byte is one of the digits 0 to 9
 unfoldable pub is_digit : ℕ → Bool
@@ -30,6 +28,6 @@ pub record Begins (s : List ℕ) (at k v : ℕ) : Type 0 where
   pub most : v < 10 ^ k
 
 -- what reading a number at `at` of s must answer: the number that stands there and the position after it, or that none stands there
-abbrev pub NumberAt : List ℕ → ℕ → Number → Type 0
-NumberAt s at (Value x next) = (next ≤ length s) × NumberThen (drop at s) x (drop next s)
-NumberAt s at NoNumber = (x : ℕ) (rest : List ℕ) → NumberThen (drop at s) x rest → ⊥
+abbrev pub NumberAt : List ℕ → ℕ → Option (ℕ × ℕ) → Type 0
+NumberAt s at (Some (x, next)) = (next ≤ length s) × NumberThen (drop at s) x (drop next s)
+NumberAt s at None = (x : ℕ) (rest : List ℕ) → NumberThen (drop at s) x rest → ⊥

@@ -1,59 +1,74 @@
--- Changes kept as numbers: one change more, and which changes are kept. Assumes nothing.
-use mathlib.Core.Path.{◌≡◌, refl, sym, ap, ◌∙◌}
-use mathlib.Core.List.{List, [], ◌∷◌, ◌++◌, append_assoc}
-use Prim.Native.Nat.{ℕ, ◌+◌, ◌*◌, ◌≤◌}
+-- Changes that are kept: the first of them, one change more, and which changes they are. Assumes nothing.
+use mathlib.Core.Path.{◌≡◌, refl, sym, ap, ◌∙◌, subst}
+use mathlib.Core.List.{List, [], ◌∷◌, ◌++◌}
+use Prim.Native.Nat.{ℕ, ◌+◌, ◌*◌, ◌≤◌, ◌<◌}
 use native.Mathlib.Omega.{arith}
-use native.Mathlib.Nat.{add-zero, mul-suc, mul-zero}
-use lib.ListN.{length, get_or, take, drop, set, length-append, length-drop, take-append-drop}
-use lib.Seq.{take_at, drop_at}
-use Rattle.model.specs.Text.{over, texts}
+use lib.ListN.{length, take, drop, set, length-append, length-take, length-drop, take-append-drop}
+use lib.Seq.{length-take-le}
+use Rattle.std.proofs.lemmas.List.{drop-take, drop-drop, take-append-le}
 use Rattle.model.specs.Change.{Change}
 use Rattle.model.specs.Trace.{word_text, change_line, LineChange}
 use Rattle.text.specs.Reading.{Found}
-use Rattle.text.proofs.Over.{over_none, over-set}
 use Rattle.text.proofs.Decimals.{length-pos}
-use Rattle.text.proofs.Texts.{texts-snoc, texts-least}
-use Rattle.trace.specs.Check.{head_of, words_of, Kept}
+use Rattle.text.proofs.Texts.{texts-least}
+use Rattle.calls.specs.Terms.{code_of}
+use Rattle.lines.specs.declared.Line.{Line}
+use Rattle.lines.specs.Clauses.{change_of}
+use Rattle.trace.specs.Check.{Kept}
 use Rattle.trace.proofs.Whole.{code-least}
 
--- how many words the changes have, and how many numbers their heads are
+-- how many words the changes have
 abbrev pub total : List Change → ℕ
-total cs = length (texts words_of cs)
-
-pub heads-length : (cs : List Change) → length (texts head_of cs) ≡ 4 * length cs
-unfolding texts
-heads-length [] = omega (arith, mul-zero 4)
-heads-length (c ∷ cs) = omega (arith, length-append (head_of c) (texts head_of cs), heads-length cs, mul-suc 4 (length cs))
-
-pub kept-none : (heads words : List ℕ) → Kept heads words []
-unfolding texts
-kept-none heads words = record { heads-rest = heads; heads-are = refl; words-rest = words; words_are = refl }
-
--- one change more, whose head is stored and whose words stand after those before
-pub kept_more : (heads words after : List ℕ) (cs : List Change) (c : Change) (at w : ℕ) → Kept heads words cs → at ≡ 4 * length cs → w ≡ total cs
-    → take w after ≡ take w words → take (length c.words) (drop w after) ≡ c.words → Kept (over at (head_of c) heads) after (cs ++ (c ∷ []))
-unfolding over
-kept_more heads words after cs c at w k e f before own =
-    let h = texts head_of cs in
-    let v = texts words_of cs in
-    let y = drop (length c.words) (drop w after) in
-    record {
-      heads-rest = drop (at + 4) heads;
-      heads-are =
-          ap (λ (l : List ℕ). l ++ (head_of c ++ drop (at + 4) heads)) (ap (take at) k.heads-are ∙ take_at h k.heads-rest at (heads-length cs ∙ sym e))
-          ∙ sym (append_assoc h (head_of c) (drop (at + 4) heads))
-          ∙ ap (λ (l : List ℕ). l ++ drop (at + 4) heads) (sym (texts-snoc head_of cs c));
-      words-rest = y;
-      words_are =
-          sym (take-append-drop w after)
-          ∙ ap (λ (l : List ℕ). l ++ drop w after) (before ∙ ap (take w) k.words_are ∙ take_at v k.words-rest w (sym f))
-          ∙ ap (λ (l : List ℕ). v ++ l) (sym (take-append-drop (length c.words) (drop w after)) ∙ ap (λ (l : List ℕ). l ++ y) own)
-          ∙ sym (append_assoc v c.words y)
-          ∙ ap (λ (l : List ℕ). l ++ y) (sym (texts-snoc words_of cs c));
-    }
+total [] = 0
+total (c ∷ cs) = length c.words + total cs
 
 pub total-more : (cs : List Change) (c : Change) → total (cs ++ (c ∷ [])) ≡ total cs + length c.words
-total-more cs c = ap length (texts-snoc words_of cs c) ∙ length-append (texts words_of cs) c.words
+total-more [] c = omega arith
+total-more (d ∷ cs) c = omega (arith, total-more cs c)
+
+-- a head whose words are there tells how many the change has
+pub head-count : (words : List ℕ) (x : Line) (c : Change) → x.count ≤ length words → c ≡ change_of words x → length c.words ≡ x.count
+head-count words x c few e = ap (λ (d : Change). length d.words) e ∙ length-take-le x.count words few
+
+-- the first of them, and those after it
+pub record First (heads : List Line) (words : List ℕ) (c : Change) (cs : List Change) : Type 0 where
+  pub head : Line
+  pub others : List Line
+  pub is : heads ≡ head ∷ others
+  pub few : head.count ≤ length words
+  pub change : c ≡ change_of words head
+  pub then : Kept others (drop head.count words) cs
+
+pub kept-first : (heads : List Line) (words : List ℕ) (c : Change) (cs : List Change) → Kept heads words (c ∷ cs) → First heads words c cs
+kept-first [] words c cs k = absurd k
+kept-first (x ∷ heads) words c cs k = record { head = x; others = heads; is = refl; few = k.0; change = k.1; then = k.2 }
+
+take-short : (n t : ℕ) (l : List ℕ) → n ≤ length l → take n l ≡ take n (take (n + t) l)
+take-short n t l h =
+    ap (take n) (sym (take-append-drop (n + t) l)) ∙ take-append-le n (take (n + t) l) (drop (n + t) l) (omega (arith, length-take (n + t) l))
+
+-- one change more, whose head is stored and whose words stand after those before
+pub kept_more : (heads : List Line) (words after : List ℕ) (cs : List Change) (x : Line) → Kept heads words cs → length cs < length heads
+    → length after ≡ length words → take (total cs) after ≡ take (total cs) words → x.count ≤ length (drop (total cs) after)
+    → Kept (set heads (length cs) x) after (cs ++ (change_of (drop (total cs) after) x ∷ []))
+kept_more [] words after [] x k room long same few = absurd (omega (arith, room))
+kept_more [] words after (c ∷ cs) x k room long same few = absurd (omega (arith, room))
+kept_more (y ∷ heads) words after [] x k room long same few = (few, refl, tt)
+kept_more (y ∷ heads) words after (c ∷ cs) x k room long same few =
+    let n = y.count in
+    let t = total cs in
+    let e : total (c ∷ cs) ≡ n + t = ap (λ (m : ℕ). m + t) (head-count words y c k.0 k.1) in
+    let s : take (n + t) after ≡ take (n + t) words = subst (λ (m : ℕ). take m after ≡ take m words) e same in
+    let own : take n words ≡ take n after =
+    take-short n t words k.0 ∙ ap (take n) (sym s) ∙ sym (take-short n t after (omega (arith, k.0, long))) in
+    let rest : take t (drop n after) ≡ take t (drop n words) = sym (drop-take n t after) ∙ ap (drop n) s ∙ drop-take n t words in
+    let d : drop (total (c ∷ cs)) after ≡ drop t (drop n after) = ap (λ (m : ℕ). drop m after) e ∙ sym (drop-drop t n after) in
+    let l : length (drop n after) ≡ length (drop n words) = omega (arith, long, length-drop n after, length-drop n words) in
+    let more = kept_more heads (drop n words) (drop n after) cs x k.2 (omega arith) l rest (subst (λ (u : List ℕ). x.count ≤ length u) d few) in (
+      omega arith,
+      k.1 ∙ ap (λ (u : List ℕ). record { code = code_of y.kind; a = y.a; b = y.b; words = u }) own,
+      subst (λ (u : List ℕ). Kept (set heads (length cs) x) (drop n after) (cs ++ (change_of u x ∷ []))) (sym d) more,
+    )
 
 -- a change's line has 20 bytes and two for each word
 word-least : (w : ℕ) → 2 ≤ length (word_text w)
@@ -68,41 +83,12 @@ pub longer : {s : List ℕ} {at : ℕ} {c : Change} {next : ℕ} → Found chang
 longer {s} {at} {c} {next} f = omega (arith, f.within, line-least c, simp (length-append, length-drop) at (ap length f.stands))
 
 -- as many changes kept in the same places are the same
-same-front : (x y u v : List ℕ) → length x ≡ length y → x ++ u ≡ y ++ v → (x ≡ y) × (u ≡ v)
-same-front x y u v l e = (
-  sym (take_at x u (length x) refl) ∙ ap (take (length x)) e ∙ take_at y v (length x) (sym l),
-  sym (drop_at x u (length x) refl) ∙ ap (drop (length x)) e ∙ drop_at y v (length x) (sym l),
-)
-
-lists-same : (cs ds : List Change) (p q u v : List ℕ) → length cs ≡ length ds → texts head_of cs ++ p ≡ texts head_of ds ++ q
-    → texts words_of cs ++ u ≡ texts words_of ds ++ v → cs ≡ ds
-unfolding texts
-lists-same [] [] p q u v l h w = refl
-lists-same [] (d ∷ ds) p q u v l h w = absurd (omega (arith, l))
-lists-same (c ∷ cs) [] p q u v l h w = absurd (omega (arith, l))
-lists-same (c ∷ cs) (d ∷ ds) p q u v l h w =
-    let code : c.code ≡ d.code = ap (λ (x : List ℕ). get_or x 0 0) h in
-    let a : c.a ≡ d.a = ap (λ (x : List ℕ). get_or x 1 0) h in
-    let b : c.b ≡ d.b = ap (λ (x : List ℕ). get_or x 2 0) h in
-    let n : length c.words ≡ length d.words = ap (λ (x : List ℕ). get_or x 3 0) h in
-    let g = same-front c.words d.words (texts words_of cs ++ u) (texts words_of ds ++ v) n
-    (sym (append_assoc c.words (texts words_of cs) u) ∙ w ∙ append_assoc d.words (texts words_of ds) v) in
-    let r = lists-same cs ds p q u v (omega (arith, l)) (ap (drop 4) h) g.1 in
-    λ i. record { code = code i; a = a i; b = b i; words = g.0 i } ∷ r i
-
-pub kept_same : (heads words : List ℕ) (cs ds : List Change) → length cs ≡ length ds → Kept heads words cs → Kept heads words ds → cs ≡ ds
-kept_same heads words cs ds l k m =
-    lists-same cs ds k.heads-rest m.heads-rest k.words-rest m.words-rest l (sym k.heads-are ∙ m.heads-are) (sym k.words_are ∙ m.words_are)
-
--- A head is stored by four writes.
-pub four-set : (l : List ℕ) (at w x y z : ℕ) → at + 4 ≤ length l
-    → set (set (set (set l at w) (at + 1) x) (at + 2) y) (at + 3) z ≡ over at (w ∷ (x ∷ (y ∷ (z ∷ [])))) l
-four-set l at w x y z h =
-    let one : set l at w ≡ over at (w ∷ []) l =
-    ap (λ (m : List ℕ). set m at w) (sym (over_none at l))
-    ∙ ap (λ (j : ℕ). set (over at [] l) j w) (sym (add-zero at)) ∙ over-set at [] l w (omega (arith, h)) in
-    let two : set (set l at w) (at + 1) x ≡ over at (w ∷ (x ∷ [])) l =
-    ap (λ (m : List ℕ). set m (at + 1) x) one ∙ over-set at (w ∷ []) l x (omega (arith, h)) in
-    let three : set (set (set l at w) (at + 1) x) (at + 2) y ≡ over at (w ∷ (x ∷ (y ∷ []))) l =
-    ap (λ (m : List ℕ). set m (at + 2) y) two ∙ over-set at (w ∷ (x ∷ [])) l y (omega (arith, h)) in
-    ap (λ (m : List ℕ). set m (at + 3) z) three ∙ over-set at (w ∷ (x ∷ (y ∷ []))) l z (omega (arith, h))
+pub kept_same : (heads : List Line) (words : List ℕ) (cs ds : List Change) → length cs ≡ length ds → Kept heads words cs → Kept heads words ds → cs ≡ ds
+kept_same heads words [] [] l k m = refl
+kept_same heads words [] (d ∷ ds) l k m = absurd (omega (arith, l))
+kept_same heads words (c ∷ cs) [] l k m = absurd (omega (arith, l))
+kept_same [] words (c ∷ cs) (d ∷ ds) l k m = absurd k
+kept_same (x ∷ heads) words (c ∷ cs) (d ∷ ds) l k m =
+    let first = k.1 ∙ sym m.1 in
+    let others = kept_same heads (drop x.count words) cs ds (omega (arith, l)) k.2 m.2 in
+    λ i. first i ∷ others i

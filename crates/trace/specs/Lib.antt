@@ -1,3 +1,2 @@
--- What the reading of a whole trace must answer, and its steps.
+-- What the reading of a whole trace must answer and keep.
 pub mod Check
-pub mod Steps

@@ -7,17 +7,13 @@ use lib.ListN.{get_or}
 use borrow.Author.Count.{below_more}
 use Rattle.model.specs.Shape.{low}
 use Rattle.model.proofs.Shapes.{low-good}
-use Rattle.layout.proofs.Said.{says-yes, says-no}
+use Rattle.layout.proofs.Said.{says-no}
 use Rattle.audit.specs.Tally.{up_to}
 use Rattle.audit.specs.Parts.{Limits}
 use Rattle.audit.proofs.Phi.{up_to-one, up_to-suc, up_to-more}
 use Rattle.audit.proofs.Limited.{held_small, count-tested, count_held, count-below, count_none, none-counted}
 use Rattle.audit.proofs.counts_of.Goals.{In-loop-j}
 use Rattle.audit.proofs.counts_of.Goals as goal
-
-pub returns-then-phi-ne0 : goal.returns-then-phi-ne0
-returns-then-phi-ne0 c = let a = c.args in
-    says-no (λ g. c.if-phi-ne0.true (c.phi.ensures ∙ (none-counted low a.rack.now a.v _ (g 0 (omega arith))).0))
 
 pub returns-then-tally-v-ne0 : goal.returns-then-tally-v-ne0
 returns-then-tally-v-ne0 c = let a = c.args in
@@ -27,7 +23,7 @@ pub loop-j-init : goal.loop-j-init
 loop-j-init c = let a = c.args in
     let none = up_to-one low a.tally.now a.v ∙ c.if-tally-v-ne0.false in
     let first = count_none low a.rack.now a.v _ (sym c.phi.ensures ∙ c.if-phi-ne0.false) none in
-    (omega arith, (sym none, below_more _ 0 (λ i h. absurd (omega arith)) first))
+    (sym none, below_more _ 0 (λ i h. absurd (omega arith)) first)
 
 -- the total, with the entry of j
 more : (c : In-loop-j) →
@@ -37,7 +33,7 @@ more : (c : In-loop-j) →
 more c =
     let a = c.args in
     let l = c.loop-j in
-    omega (arith, up_to-suc low a.tally.now a.v l.j, l.invariant.1.0)
+    omega (arith, up_to-suc low a.tally.now a.v l.j, l.invariant.0)
 
 limits : (c : In-loop-j) →
     let a = c.args in
@@ -53,9 +49,6 @@ fits c =
 
 pub overflow_add-total-in-loop-j : goal.overflow_add-total-in-loop-j
 overflow_add-total-in-loop-j c = record { fits = omega (arith, fits (goal.at.overflow_add-total-in-loop-j c).In-loop-j) }
-
-pub bounds-standing-j : goal.bounds-standing-j
-bounds-standing-j c = omega (arith, (limits (goal.at.bounds-standing-j c).In-loop-j).levels.0)
 
 pub overflow_mul-total-in-loop-j : goal.overflow_mul-total-in-loop-j
 overflow_mul-total-in-loop-j c = let a = c.args in
@@ -77,9 +70,6 @@ returns-then-x-total c = let a = c.args in
     says-no (λ g. c.if-x-total.true (c.phi-x.ensures ∙ count_held (limits (goal.at.returns-then-x-total c).In-loop-j) _ l.j h a.v (g l.j h)
     ∙ ap (λ (x : ℕ). x * get_or a.standing.now l.j 0) (sym (more (goal.at.returns-then-x-total c).In-loop-j))))
 
-pub bounds-bars-j : goal.bounds-bars-j
-bounds-bars-j c = omega (arith, (limits (goal.at.bounds-bars-j c).In-loop-j).thresholds.0)
-
 pub returns-then-bars-j : goal.returns-then-bars-j
 returns-then-bars-j c = let a = c.args in
     let l = c.loop-j in
@@ -91,25 +81,12 @@ returns-then-bars-j c = let a = c.args in
       count-below (limits (goal.at.returns-then-bars-j c).In-loop-j) _ l.j h a.v low-good (g l.j h),
     ))
 
-pub overflow_add-j : goal.overflow_add-j
-overflow_add-j c = record { fits = omega (arith, c.loop-j-test.true) }
-
-pub loop-j-smaller : goal.loop-j-smaller
-loop-j-smaller c = omega (arith, c.loop-j-test.true)
-
 pub loop-j-preserved : goal.loop-j-preserved
 loop-j-preserved c = let a = c.args in
     let l = c.loop-j in
     let h = c.loop-j-test.true in
     let phi = c.phi-x.ensures in
     let held = sym phi ∙ c.if-x-total.false ∙ ap (λ (x : ℕ). x * get_or a.standing.now l.j 0) (more (goal.at.loop-j-preserved c).In-loop-j) in (
-      omega (arith, h),
-      (
-        omega (arith, up_to-more low a.tally.now a.v l.j, l.invariant.1.0),
-        below_more _ _ l.invariant.1.1 (count-tested (limits (goal.at.loop-j-preserved c).In-loop-j) _ l.j h a.v held
-            (omega (arith, phi, c.if-bars-j.false))),
-      ),
+      omega (arith, up_to-more low a.tally.now a.v l.j, l.invariant.0),
+      below_more _ _ l.invariant.1 (count-tested (limits (goal.at.loop-j-preserved c).In-loop-j) _ l.j h a.v held (omega (arith, phi, c.if-bars-j.false))),
     )
-
-pub returns : goal.returns
-returns c = says-yes (λ i h. c.loop-j.invariant.1.1 i (omega (arith, c.loop-j-test.false)))

@@ -52,7 +52,7 @@ rosters c = said c.all.ensures c.if-not-all.false
 
 pub edges-requires-2 : goal.edges-requires-2
 edges-requires-2 c = let few : c.size-n.result ≤ low.most = omega (arith, c.if-n-gt-MOST.false) in
-    record { sized = c.requires; n_le_most = few; by_index = enrolled-rank few (rosters c) }
+    record { n_le_most = few; by_index = enrolled-rank few (rosters c) }
 
 pub returns-then-not-edges : goal.returns-then-not-edges
 returns-then-not-edges c = let bs = c.args.rack.now in

@@ -1,50 +1,34 @@
--- `bitset::nth` meets its contract. The loop's invariant: i is a byte of the row, n its ones, and `left` members are still to pass. Assumes nothing.
-use mathlib.Core.Path.{◌≡◌, sym, subst}
-use Prim.Native.Nat.{◌<◌, ◌+◌, ◌*◌}
+-- `bitset::nth` meets its contract. The loop's invariant: `left` members are still to pass. Assumes nothing.
+use mathlib.Core.Path.{◌≡◌, sym, ap, subst}
+use Prim.Native.Nat.{ℕ, ◌*◌}
 use native.Mathlib.Omega.{arith}
 use lib.Dec.{T}
 use lib.ListN.{length}
 use Rattle.model.specs.Counting.{count}
-use Rattle.bitset.specs.Row.{member}
+use Rattle.bitset.specs.Row.{member, size}
 use Rattle.model.proofs.Prefix.{count-zero}
-use Rattle.bitset.proofs.Laws.{byte-member, count-in, count-byte, inside}
-use Rattle.bitset.proofs.nth.Goals.{After-shared_slice_known-1, In-loop-n}
+use Rattle.bitset.proofs.Laws.{byte-member, count-in, count-byte}
 use Rattle.bitset.proofs.nth.Goals as goal
 
--- where k members stand, the row is not empty
-start : (c : After-shared_slice_known-1) → 0 < length c.args.row.now
-start c = inside c.args.row.now 0 (omega (arith, count-zero (member c.args.row.now)))
+pub loop-i-init : goal.loop-i-init
+loop-i-init c = omega (arith, count-zero (member c.args.row.now))
 
--- the members up to the end of byte i, in a turn; there is a next byte
-passed : (c : In-loop-n) →
-    let row = c.args.row.now in
-    let l = c.loop-n in
-    (count (member row) (8 * (l.i + 1)) ≡ count (member row) (8 * l.i) + l.n) × (l.i + 1 < length row)
-passed c =
-    let row = c.args.row.now in
-    let byte = c.shared_slice_known-1.given c.loop-n.i in
-    let e : count (member row) (8 * (c.loop-n.i + 1)) ≡ count (member row) (8 * c.loop-n.i) + c.loop-n.n =
-    omega (arith, count-byte row c.loop-n.i byte.fits, c.loop-n.invariant.1) in
-    (e, inside row (c.loop-n.i + 1) (omega (arith, e, c.loop-n.invariant.2, c.loop-n-test.true, c.requires.k_bound)))
-
-pub bounds-row-0 : goal.bounds-row-0
-bounds-row-0 c = start (goal.at.bounds-row-0 c).After-shared_slice_known-1
-
-pub loop-n-init : goal.loop-n-init
-loop-n-init c = (start (goal.at.loop-n-init c).After-shared_slice_known-1, c.ones-n.ensures.0, omega (arith, count-zero (member c.args.row.now)))
-
-pub bounds-row-i : goal.bounds-row-i
-bounds-row-i c = (passed (goal.at.bounds-row-i c).In-loop-n).1
-
-pub loop-n-preserved : goal.loop-n-preserved
-loop-n-preserved c = let p = passed (goal.at.loop-n-preserved c).In-loop-n in (p.1, c.ones-n-in-loop-n.ensures.0, omega (arith, p.0))
-
-pub returns : goal.returns
-returns c = let l = c.loop-n in
+pub returns-then-left-n : goal.returns-then-left-n
+returns-then-left-n c = let l = c.loop-i in
     let row = c.args.row.now in
     let n = c.nth_one.ensures in
     record {
       inside = omega arith;
       is = subst T (sym (byte-member row l.i c.nth_one.result n.0)) n.1;
-      before = omega (arith, count-in row l.i c.nth_one.result (omega arith), n.2, l.invariant.2);
+      before = omega (arith, count-in row l.i c.nth_one.result (omega arith), n.2, l.invariant);
     }
+
+pub loop-i-preserved : goal.loop-i-preserved
+loop-i-preserved c = omega (arith, count-byte c.args.row.now c.loop-i.i (c.type_inv.row c.loop-i.i).fits, c.loop-i.invariant, c.ones-n.ensures.0)
+
+-- fewer members are to pass than there are
+pub unreachable-requires : goal.unreachable-requires
+unfolding size
+unreachable-requires c = let row = c.args.row.now in
+    let e : c.loop-i.i ≡ length row = omega arith in
+    omega (arith, c.loop-i.invariant, ap (λ (n : ℕ). count (member row) (8 * n)) e, c.requires.k_bound)

@@ -1,50 +1,47 @@
--- `bitset::size_by_words` meets its contract. The loop's invariant: the sum is the count of the members in the bytes passed, which are
--- whole words. Assumes nothing.
+-- `bitset::size_by_words` meets its contract. The loop's invariant: the sum is the count of the members in the words passed. Assumes nothing.
 use mathlib.Core.Path.{◌≡◌, sym, ap, ◌∙◌}
-use Prim.Native.Nat.{ℕ, ◌+◌, ◌*◌}
+use mathlib.Core.List.{List, []}
+use Prim.Native.Nat.{ℕ, ◌+◌, ◌*◌, ◌<◌, ◌/◌}
 use native.Mathlib.Omega.{arith}
-use lib.ListN.{length}
+use lib.ListN.{length, get_or}
 use Rattle.model.specs.Counting.{count}
 use Rattle.model.proofs.Counting.{count-bound}
 use Rattle.model.proofs.Prefix.{count-zero, count_add}
 use Rattle.bitset.specs.Row.{member, size}
-use Rattle.bitset.proofs.Words.{rest-count}
-use borrow.Author.Rules.{rules}
+use Rattle.bitset.proofs.Words.{rest-count, word-rest, byte-of_chunk}
 use Rattle.bitset.proofs.size_by_words.Goals.{After-word_ones-sum}
 use Rattle.bitset.proofs.size_by_words.Goals as goal
 
-pub loop-i-init : goal.loop-i-init
-loop-i-init c = (search rules, (search rules, sym (count-zero (member c.args.row.now))))
+pub loop-bytes-init : goal.loop-bytes-init
+loop-bytes-init c = sym (count-zero (member c.args.row.now))
 
 -- the sum after a turn
-turn : (c : After-word_ones-sum) →
-    let row = c.args.row.now in
-    let l = c.loop-i in
-    l.sum + c.word_ones-sum.result ≡ count (member row) (8 * (l.i + 8))
+turn : (c : After-word_ones-sum) → c.loop-bytes.sum + c.word_ones-sum.result ≡ count (member c.args.row.now) (8 * (8 * (c.loop-bytes.bytes-index + 1)))
 turn c =
     let row = c.args.row.now in
-    let l = c.loop-i in
-    let x = c.word in
-    let e : 8 * (l.i + 8) ≡ 8 * l.i + 64 = omega arith in
+    let k = c.loop-bytes.bytes-index in
+    let x = c.from_le_bytes in
+    let e : 8 * (8 * (k + 1)) ≡ 8 * (8 * k) + 64 = omega arith in
+    let part = λ (a : ℕ) (h : a < 8).
+    ap (λ (s : List (List ℕ)). get_or (get_or s k []) a 0) c.as_chunks.ensures.front ∙ byte-of_chunk row (length row / 8) k a (omega arith) h in
+    let rest = word-rest row _ (8 * k) x.result (λ a. (c.type_inv.row a).fits) part x.ensures in
     omega (
       arith,
       ap (count (member row)) e,
-      count_add (member row) (8 * l.i) 64,
-      rest-count (λ j. member row (8 * l.i + j)) x.result x.ensures,
+      count_add (member row) (8 * (8 * k)) 64,
+      rest-count (λ j. member row (8 * (8 * k) + j)) x.result rest,
       c.word_ones-sum.ensures.0,
-      l.invariant.1.1,
+      c.loop-bytes.invariant,
     )
 
 pub overflow_add-sum : goal.overflow_add-sum
-overflow_add-sum c = let l = c.loop-i in
-    let row = c.args.row.now in
-    omega (arith, turn c, count-bound (member row) (8 * (l.i + 8)))
+overflow_add-sum c = omega (arith, turn c, count-bound (member c.args.row.now) (8 * (8 * (c.loop-bytes.bytes-index + 1))))
 
-pub loop-i-preserved : goal.loop-i-preserved
-loop-i-preserved c = (search rules, (search rules, turn c))
+pub loop-bytes-preserved : goal.loop-bytes-preserved
+loop-bytes-preserved c = turn c
 
 pub returns : goal.returns
 unfolding size
 returns c = let row = c.args.row.now in
-    let e : c.loop-i.i ≡ length row = omega arith in
-    c.loop-i.invariant.1.1 ∙ ap (λ (n : ℕ). count (member row) (8 * n)) e
+    let e : 8 * c.loop-bytes.bytes-index ≡ length row = omega arith in
+    c.loop-bytes.invariant ∙ ap (λ (n : ℕ). count (member row) (8 * n)) e

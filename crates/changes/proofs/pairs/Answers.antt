@@ -8,16 +8,10 @@ use Rattle.model.specs.Shape.{low}
 use Rattle.model.specs.State.{pairs}
 use Rattle.model.specs.Bytes.{rules_at, read, roster_at}
 use Rattle.theory.proofs.Matching.{free-pairs}
-use Rattle.moves.proofs.Held.{held-sized, held-size, held-few, held-rostered}
+use Rattle.moves.proofs.Held.{held-size, held-few, held-rostered}
 use Rattle.changes.proofs.Wholes.{sounded-held}
 use Rattle.changes.proofs.pairs.Goals.{After-size-2}
 use Rattle.changes.proofs.pairs.Goals as goal
-
-pub size-requires : goal.size-requires
-size-requires c = held-sized (sounded-held c.args.rack.now c.requires)
-
-pub size-requires-2 : goal.size-requires-2
-size-requires-2 c = record { sized = held-sized (sounded-held c.args.rack.now c.requires); r_le_levels = omega arith }
 
 -- the roster that is counted is that of rank 0
 idle : (bs : List ℕ) {r k : ℕ} → k ≡ count (roster_at low bs r) low.most → r ≡ 0 → k ≡ count (roster_at low bs 0) low.most

@@ -1,13 +1,8 @@
 -- `drawing::decide` meets its contract. Assumes nothing.
 use mathlib.Core.Path.{◌≡◌}
-use Prim.Native.Nat.{◌-◌}
-use lib.ListN.{length}
 use Rattle.model.specs.Words.{deciding}
 use Rattle.drawing.proofs.decide.Given as goal
 
 -- what decides is the same from the word at hand on
 abbrev pub invariant-loop-j : goal.invariant-loop-j
 invariant-loop-j l = deciding l.words l.used l.k ≡ deciding l.words l.j l.k
-
-abbrev pub decreases-loop-j : goal.decreases-loop-j
-decreases-loop-j l = length l.words - l.j

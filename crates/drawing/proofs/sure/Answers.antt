@@ -1,29 +1,15 @@
 -- `drawing::sure` meets its contract. Assumes nothing.
+use Rattle.std.proofs.Common.{rules, take, ℕ, ap, ◌∙◌}
+use Rattle.std.proofs.lemmas.Fn.{fold_over, slice_gives, fronts}
 use native.Mathlib.Omega.{arith}
-use Rattle.drawing.proofs.Certain.{large-next, none-next, sure-of}
-use Rattle.drawing.proofs.sure.Goals.{then-words-j-ge-SURE, else-words-j-ge-SURE}
+use Rattle.drawing.proofs.Certain.{NoneLarge, none-next, sure-of}
 use Rattle.drawing.proofs.sure.Goals as goal
 
-pub returns-then-words-h : goal.returns-then-words-h
-returns-then-words-h c = tt
-
-pub loop-j-init : goal.loop-j-init
-loop-j-init c = λ n i b. absurd (omega arith)
-
-pub bounds-words-j : goal.bounds-words-j
-bounds-words-j c = omega (arith, c.loop-j-test.true, c.if-words-h.false)
-
-pub loop-j-smaller : goal.loop-j-smaller
-loop-j-smaller c = omega (arith, c.loop-j-test.true)
-
-pub loop-j-preserved : goal.loop-j-preserved
-loop-j-preserved c =
-    let words = c.args.words.now in
-    elim c.if-words-j-ge-SURE.branch [
-      | then-words-j-ge-SURE w ↦ large-next words _ w.large-is
-      | else-words-j-ge-SURE w ↦ none-next words (omega arith) c.loop-j.invariant (omega (arith, w.if-words-j-ge-SURE.false)) w.large-is
-    ]
-
 pub returns : goal.returns
-returns c = let a = c.args in
-    sure-of a.words.now a.h c.loop-j.large (omega (arith, c.if-words-h.false)) (omega (arith, c.loop-j-test.false)) c.loop-j.invariant
+returns c =
+    let all =
+    fold_over fronts (λ y. y.now) _ NoneLarge _ (λ ys a x b f' j k. (none-next ys x.now a (search rules) j, search rules)) _ _ _ _
+    (slice_gives c.iter.result) (λ t i h. absurd (omega arith)) c.fold.ensures.ran in
+    let got = c.in-Some.ensures.lookup.0 in
+    let first = c.iter.ensures.rest ∙ got.2 ∙ ap (λ (n : ℕ). take n c.args.words.now) (omega arith) in
+    sure-of c.args.words.now _ c.args.h c.fold.result (omega arith) first all

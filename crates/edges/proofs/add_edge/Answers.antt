@@ -11,13 +11,13 @@ use Rattle.model.specs.State.{State}
 use Rattle.model.specs.Bytes.{kind_at, image, read, write}
 use Rattle.model.specs.Change.{add_edge as edge_added}
 use Rattle.layout.specs.Setters.{Sized, own as owned}
-use Rattle.moves.proofs.Held.{held-sized, held-rank}
+use Rattle.moves.proofs.Held.{held-rank}
 use Rattle.edges.specs.Steps.{edge_counted, Countable}
 use Rattle.edges.proofs.Shifted.{Higher, higher-of}
 use Rattle.edges.proofs.Stages.{turned, turned-sized}
 use Rattle.edges.proofs.EdgeSteps.{step-written}
 use Rattle.edges.proofs.Adding.{Addable, a_small, b-small, own-high, own-low, add_step, add-countable}
-use Rattle.edges.proofs.add_edge.Goals.{After-higher, After-slice_known-2-1, Joined-rb-ra, Start, else-rb-ra, then-rb-ra}
+use Rattle.edges.proofs.add_edge.Goals.{After-max, After-count_edge, Joined-rb-ra, Start, else-rb-ra, then-rb-ra}
 use Rattle.edges.proofs.add_edge.Goals as goal
 
 -- the state that comes in, and the state that is to be written
@@ -60,39 +60,37 @@ turned-long : (c : Joined-rb-ra) → Sized low c.if-rb-ra.rack
 turned-long c = ap length (turned-now c) ∙ turned-sized (from (goal.at.Joined-rb-ra c).Start)
     (to (goal.at.Joined-rb-ra c).Start) c.requires.held.proper
 
-higher-is : (c : After-higher) → Higher c.args.a c.args.b c.higher.result (from (goal.at.After-higher c).Start)
+higher-is : (c : After-max) → Higher c.args.a c.args.b c.max.result (from (goal.at.After-max c).Start)
 higher-is c =
-    higher-of c.requires.held c.args.a c.args.b (a-low (goal.at.After-higher c).Start)
-    (b-low (goal.at.After-higher c).Start) c.rank-ra.ensures c.rank-rb.ensures
-    c.higher.ensures
+    higher-of c.requires.held c.args.a c.args.b (a-low (goal.at.After-max c).Start)
+    (b-low (goal.at.After-max c).Start) c.rank-ra.ensures c.rank-rb.ensures
+    c.max.ensures
 
 -- the bytes at the end
-written-now : (c : After-slice_known-2-1) → c.count_edge.new.rack ≡ write (to (goal.at.After-slice_known-2-1 c).Start)
+written-now : (c : After-count_edge) → c.count_edge.new.rack ≡ write (to (goal.at.After-count_edge c).Start)
 written-now c =
     let a = c.args.a in
     let b = c.args.b in
-    let j = c.higher.result in
-    c.count_edge.ensures ∙ ap (λ (bs : List ℕ). edge_counted low true bs a b j) (turned-now (goal.at.After-slice_known-2-1 c).Joined-rb-ra)
-    ∙ step-written a b j true (from (goal.at.After-slice_known-2-1 c).Start) (to (goal.at.After-slice_known-2-1 c).Start)
-    (add_step a b (from (goal.at.After-slice_known-2-1 c).Start) (addable (goal.at.After-slice_known-2-1 c).Start) j
-    (higher-is (goal.at.After-slice_known-2-1 c).After-higher))
+    let j = c.max.result in
+    c.count_edge.ensures ∙ ap (λ (bs : List ℕ). edge_counted low true bs a b j) (turned-now (goal.at.After-count_edge c).Joined-rb-ra)
+    ∙ step-written a b j true (from (goal.at.After-count_edge c).Start) (to (goal.at.After-count_edge c).Start)
+    (add_step a b (from (goal.at.After-count_edge c).Start) (addable (goal.at.After-count_edge c).Start) j
+    (higher-is (goal.at.After-count_edge c).After-max))
 
 pub rank-ra-requires : goal.rank-ra-requires
-rank-ra-requires c = record { sized = held-sized c.requires.held; v_lt_most = a-low (goal.at.rank-ra-requires c).Start }
+rank-ra-requires c = record { v_lt_most = a-low (goal.at.rank-ra-requires c).Start }
 
 pub rank-rb-requires : goal.rank-rb-requires
-rank-rb-requires c = record { sized = held-sized c.requires.held; v_lt_most = b-low (goal.at.rank-rb-requires c).Start }
+rank-rb-requires c = record { v_lt_most = b-low (goal.at.rank-rb-requires c).Start }
 
 pub own-requires : goal.own-requires
 own-requires c = record {
-  sized = held-sized c.requires.held;
   v_lt_most = a-low (goal.at.own-requires c).Start;
   w_lt_most = b-low (goal.at.own-requires c).Start;
 }
 
 pub own-requires-else-rb-ra : goal.own-requires-else-rb-ra
 own-requires-else-rb-ra c = record {
-  sized = held-sized c.requires.held;
   v_lt_most = b-low (goal.at.own-requires-else-rb-ra c).Start;
   w_lt_most = a-low (goal.at.own-requires-else-rb-ra c).Start;
 }
@@ -100,15 +98,11 @@ own-requires-else-rb-ra c = record {
 pub count_edge-requires : goal.count_edge-requires
 count_edge-requires c = let a = c.args.a in
     let b = c.args.b in
-    let j = c.higher.result in
+    let j = c.max.result in
     record {
-      sized = turned-long (goal.at.count_edge-requires c).Joined-rb-ra;
       countable = subst (λ (bs : List ℕ). Countable low true bs a b j) (sym (turned-now (goal.at.count_edge-requires c).Joined-rb-ra))
           (add-countable a b (from (goal.at.count_edge-requires c).Start) (addable (goal.at.count_edge-requires c).Start) j (higher-is c));
     }
-
-pub shape_of-rack : goal.shape_of-rack
-shape_of-rack c = c.count_edge.auto.rack ∙ turned-long (goal.at.shape_of-rack c).Joined-rb-ra ∙ sym (held-sized c.requires.held)
 
 pub returns : goal.returns
 returns c = written-now c

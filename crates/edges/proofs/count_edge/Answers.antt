@@ -41,7 +41,6 @@ overflow_sub-k c = omega (arith, c.top.ensures, c.requires.countable.level)
 pub step_counts-requires : goal.step_counts-requires
 step_counts-requires c = let k = c.top.ensures in
     record {
-      sized = c.requires.sized;
       w_lt_most = (c.requires.countable.a_in, omega (arith, c.requires.countable.level, c.requires.countable.room));
       by_index = λ x l h. c.requires.countable.of-a x l (omega (arith, c.requires.countable.level));
     }
@@ -49,7 +48,6 @@ step_counts-requires c = let k = c.top.ensures in
 pub step_counts-requires-2 : goal.step_counts-requires-2
 step_counts-requires-2 c = let a = c.args in
     let k = c.top.ensures in record {
-      sized = omega (arith, c.step_counts.auto.rack, c.requires.sized);
       w_lt_most = (c.requires.countable.b-in, omega (arith, c.requires.countable.level, c.requires.countable.room));
       by_index = λ x l h. subst (λ (bs : List ℕ). CanStep a.more (largest_count low) (phi_at low bs a.b x))
           (sym (first-now (goal.at.step_counts-requires-2 c).After-step_counts))

@@ -1,17 +1,19 @@
 -- `engine::audit` meets its contract. Assumes nothing.
-use mathlib.Core.Path.{refl}
+use mathlib.Core.Path.{ap, ◌∙◌}
+use mathlib.Core.List.{List}
+use Prim.Native.Nat.{ℕ}
+use Rattle.std.proofs.lemmas.Result.{err_from_is_err_and}
 use Rattle.model.specs.Shape.{low}
-use Rattle.model.specs.Calls.{audit}
-use Rattle.engine.proofs.Numbers.{flag_off, flag-on, sized-length}
+use Rattle.model.specs.Sound.{sound}
+use Rattle.engine.proofs.Numbers.{audit-back, audit-is}
 use Rattle.engine.proofs.audit.Goals as goal
 
-pub returns-then-not-sized : goal.returns-then-not-sized
-unfolding audit
-returns-then-not-sized c = rw (flag_off c.sized.ensures c.if-not-sized.true, audit) (record { number = refl; yes = refl })
-
-pub sound-requires : goal.sound-requires
-sound-requires c = sized-length low _ (flag-on c.sized.ensures c.if-not-sized.false)
+pub returns-in_err-rack : goal.returns-in_err-rack
+returns-in_err-rack c = let p = err_from_is_err_and c.from_residual.result c.from_residual.ensures.1 in
+    let e = c.in_err-rack.ensures in
+    rw (p.1, p.2, e.0) (audit-back low _ e.1)
 
 pub returns : goal.returns
-unfolding audit
-returns c = rw (flag-on c.sized.ensures c.if-not-sized.false, audit) (record { number = refl; yes = c.sound.ensures })
+returns c = let e = c.in_ok-rack.ensures in
+    let same = c.sound.ensures ∙ ap (λ (bs : List ℕ). sound low bs) e.0 in
+    (λ i. record { number = 0; yes = same i }) ∙ audit-is low _ e.1

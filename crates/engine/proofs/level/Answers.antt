@@ -1,29 +1,35 @@
 -- `engine::level` meets its contract. Assumes nothing.
-use mathlib.Core.Path.{refl, sym, ap, ◌∙◌}
-use Prim.Native.Nat.{ℕ}
-use lib.IntN.{pos, pred_ℤ}
+use mathlib.Core.Path.{◌≡◌, ap, ◌∙◌}
+use mathlib.Core.List.{List}
+use Prim.Native.Nat.{ℕ, ◌<◌}
+use native.Mathlib.Omega.{arith}
+use lib.IntN.{ℤ, pos, pred_ℤ, ◌-ℤ◌}
 use mir.Syntax.{w32}
-use mir.ValLaws.{to_z-of_z}
+use mir.Val.{to_z, of_z}
+use Rattle.std.proofs.Math.IntN.{ -ℤ_one}
+use Rattle.std.proofs.lemmas.Int.{ints}
+use Rattle.std.proofs.lemmas.Result.{err_from_is_err_and}
 use Rattle.model.specs.Shape.{low}
-use Rattle.model.specs.Calls.{level_query}
-use Rattle.engine.proofs.Numbers.{told, none_told, asked}
-use borrow.Author.Rules.{rules}
+use Rattle.model.specs.Bytes.{rank_at}
+use Rattle.changes.proofs.Numbers.{some-number}
+use Rattle.engine.proofs.Numbers.{asked, level-back, level-is}
 use Rattle.engine.proofs.level.Goals as goal
 
-pub returns-then-k-ne0 : goal.returns-then-k-ne0
-unfolding level_query
-returns-then-k-ne0 c = let e = c.one_number-k.ensures in rw (told e c.if-k-ne0.true, level_query) (record { number = e; level = refl })
+-- one less than a rank, as the code computes it
+less_one : (z : ℤ) (x : ℕ) → z ≡ pos x → x < 256 → to_z w32 (of_z w32 (to_z w32 (of_z w32 z) -ℤ pos 1)) ≡ pred_ℤ (pos x)
+less_one z x e l =
+    let one : to_z w32 (of_z w32 (to_z w32 (of_z w32 z) -ℤ pos 1)) ≡ pos x -ℤ pos 1 = omega (arith, ints) in
+    one ∙ -ℤ_one (pos x)
 
-pub rank-requires : goal.rank-requires
-rank-requires c =
-    let all = asked low _ _ (sym c.one_number-k.ensures ∙ c.if-k-ne0.false) in
-    record { sized = all.0; v_lt_most = all.1 }
+pub returns-in_err-rack : goal.returns-in_err-rack
+returns-in_err-rack c = let p = err_from_is_err_and c.from_residual.result c.from_residual.ensures.1 in
+    rw (p.1, p.2) (level-back low _ _ c.in_err-rack.ensures (some-number _))
+
+pub rank-rank-requires : goal.rank-rank-requires
+rank-rank-requires c = record { v_lt_most = (asked low _ _ c.in_ok-rack.ensures.1).1 }
 
 pub returns : goal.returns
-unfolding level_query
-returns c = rw (none_told c.one_number-k.ensures c.if-k-ne0.false, level_query)
-    (record {
-      number = refl;
-      level = to_z-of_z w32 c.level_of-level.result (search rules) ∙ c.level_of-level.ensures
-          ∙ ap (λ (x : ℕ). pred_ℤ (pos x)) c.rank.ensures;
-    })
+returns c = let e = c.in_ok-rack.ensures in
+    let rank = c.rank-rank.ensures ∙ ap (λ (bs : List ℕ). rank_at bs c.args.v) e.0 in
+    let level = less_one c.from.result _ c.from.ensures c.rank-rank.type_inv ∙ ap (λ (x : ℕ). pred_ℤ (pos x)) rank in
+    (λ i. record { number = 0; level = level i }) ∙ level-is low _ _ e.1

@@ -1,20 +1,22 @@
 -- `engine::mate` meets its contract. Assumes nothing.
-use mathlib.Core.Path.{refl, sym, ◌∙◌}
+use mathlib.Core.Path.{ap, ◌∙◌}
+use mathlib.Core.List.{List}
+use Prim.Native.Nat.{ℕ}
+use Rattle.std.proofs.lemmas.Result.{err_from_is_err_and}
 use Rattle.model.specs.Shape.{low}
-use Rattle.model.specs.Calls.{mate_query}
-use Rattle.engine.proofs.Numbers.{told, none_told, asked}
+use Rattle.model.specs.Bytes.{mate_at}
+use Rattle.changes.proofs.Numbers.{some-number}
+use Rattle.engine.proofs.Numbers.{asked, mate-back, mate-is}
 use Rattle.engine.proofs.mate.Goals as goal
 
-pub returns-then-k-ne0 : goal.returns-then-k-ne0
-unfolding mate_query
-returns-then-k-ne0 c = let e = c.one_number-k.ensures in rw (told e c.if-k-ne0.true, mate_query) (record { number = e; value = refl })
+pub returns-in_err-rack : goal.returns-in_err-rack
+returns-in_err-rack c = let p = err_from_is_err_and c.from_residual.result c.from_residual.ensures.1 in
+    rw (p.1, p.2) (mate-back low _ _ c.in_err-rack.ensures (some-number _))
 
-pub mate-requires : goal.mate-requires
-mate-requires c =
-    let all = asked low _ _ (sym c.one_number-k.ensures ∙ c.if-k-ne0.false) in
-    record { sized = all.0; v_lt_most = all.1 }
+pub mate_entry-requires : goal.mate_entry-requires
+mate_entry-requires c = record { v_lt_most = (asked low _ _ c.in_ok-rack.ensures.1).1 }
 
 pub returns : goal.returns
-unfolding mate_query
-returns c = rw (none_told c.one_number-k.ensures c.if-k-ne0.false, mate_query)
-    (record { number = refl; value = c.mate.ensures })
+returns c = let e = c.in_ok-rack.ensures in
+    let entry = c.mate_entry.ensures ∙ ap (λ (bs : List ℕ). mate_at low bs c.args.v) e.0 in
+    (λ i. record { number = 0; value = entry i }) ∙ mate-is low _ _ e.1

@@ -12,9 +12,9 @@ pub returns : goal.returns
 returns c = let first = c.fill in
     let second = c.fill-2 in
     let long : length c.args.rack.now ≡ rack_length low =
-    c.requires in
-    let whole : first.new.part ≡ replicate (rack_length low) 0 = first.ensures ∙ ap (λ (n : ℕ). replicate n 0) long in
-    let far : phis_from low ≤ length first.new.part = omega (arith, first.auto, long) in
-    let part : second.new.part ≡ replicate (2 * low.most) 255 =
-    second.ensures ∙ ap (λ (n : ℕ). replicate n 255) (mid_len (mates_from low) (phis_from low) first.new.part far) in
+    c.told-rack in
+    let whole : first.new.self ≡ replicate (rack_length low) 0 = first.ensures.after (λ y e. e) ∙ ap (λ (n : ℕ). replicate n 0) long in
+    let far : phis_from low ≤ length first.new.self = omega (arith, first.auto, long) in
+    let part : second.new.self ≡ replicate (2 * low.most) 255 =
+    second.ensures.after (λ y e. e) ∙ ap (λ (n : ℕ). replicate n 255) (mid_len (mates_from low) (phis_from low) first.new.self far) in
     ap₂ (put_mid (mates_from low) (2 * low.most)) whole part ∙ blank-is low

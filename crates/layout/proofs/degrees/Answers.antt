@@ -5,4 +5,4 @@ use Rattle.layout.proofs.Spans.{size-rows}
 use Rattle.layout.proofs.degrees.Goals as goal
 
 pub returns : goal.returns
-returns c = c.size_by_words.ensures ∙ size-rows low-good c.args.rack.now c.args.n c.requires.sized c.requires.n_le_most
+returns c = c.size_by_words.ensures ∙ size-rows low-good c.args.rack.now c.args.n c.told-rack c.requires.n_le_most

@@ -1,13 +1,8 @@
 -- `layout::owns` meets its contract: the row is lent on as a part of the bytes. Assumes nothing.
 use mathlib.Core.Path.{◌∙◌}
-use native.Mathlib.Omega.{arith}
 use Rattle.model.proofs.Shapes.{low-good}
-use Rattle.layout.proofs.Rows.{row-length, row-owns}
+use Rattle.layout.proofs.Rows.{row-owns}
 use Rattle.layout.proofs.owns.Goals as goal
 
-pub test-requires : goal.test-requires
-test-requires c = let long = row-length low-good c.args.rack.now c.requires.sized c.row_at-at.ensures in
-    omega (arith, long, c.requires)
-
 pub returns : goal.returns
-returns c = c.test.ensures ∙ row-owns low-good c.args.rack.now c.requires.sized c.row_at-at.ensures c.args.w c.requires.w_lt_most
+returns c = c.test.ensures ∙ row-owns low-good c.args.rack.now c.told-rack c.row_at-at.ensures c.args.w c.requires.w_lt_most

@@ -3,16 +3,13 @@ use mathlib.Core.Path.{◌≡◌, ap, ap₂, ◌∙◌}
 use mathlib.Core.List.{List}
 use Prim.Native.Nat.{ℕ, ◌+◌, ◌*◌}
 use native.Mathlib.Omega.{arith}
-use lib.ListN.{set, length-set}
+use lib.ListN.{set}
 use Rattle.model.specs.Shape.{low, rosters_from}
 use Rattle.model.specs.Bytes.{rank_at}
 use Rattle.bitset.specs.Row.{inserted, removed}
 use Rattle.layout.specs.Setters.{place_in, set_rank}
 use Rattle.layout.proofs.set_rank.Goals.{After-insert}
 use Rattle.layout.proofs.set_rank.Goals as goal
-
-pub shape_of-rack : goal.shape_of-rack
-shape_of-rack c = simp length-set (omega (arith, c.insert.auto, c.remove.auto))
 
 -- the rosters' bits, moved
 moved : (c : After-insert) →

@@ -19,7 +19,7 @@ whole c =
     let at = c.args.at in
     let middle = at + low.row / 2 in
     ap₂ ◌+◌ c.size.ensures c.size-2.ensures
-    ∙ halves bs at middle (at + low.row) (omega arith) (omega arith) (omega (arith, c.requires.sized, c.requires.row_bound))
+    ∙ halves bs at middle (at + low.row) (omega arith) (omega arith) (omega (arith, c.told-rack, c.requires.row_bound))
     ∙ ap (count (λ w. member bs (8 * at + w))) (omega arith)
 
 pub overflow_add-result : goal.overflow_add-result

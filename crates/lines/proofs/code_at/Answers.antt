@@ -6,21 +6,17 @@ use mathlib.Core.Logic.{inl, inr}
 use Rattle.lines.proofs.Laws as laws
 use Rattle.lines.proofs.code_at.Goals as goal
 
-pub returns-in-Next : goal.returns-in-Next
+pub returns-in-Some : goal.returns-in-Some
 unfolding code_text
-returns-in-Next c =
-    let l = c.in-Next.ensures in
-    record { within = l.0; good = inl refl; stands = l.1 }
+returns-in-Some c =
+    let add = c.in-Some.ensures in
+    record { within = add.0; good = inl refl; stands = add.1 }
 
-pub returns-in-Next-literal_at : goal.returns-in-Next-literal_at
-unfolding code_text
-returns-in-Next-literal_at c =
-    let l = c.in-Next-literal_at.ensures in
-    record { within = l.0; good = inr refl; stands = l.1 }
+pub returns-in_err-next : goal.returns-in_err-next
+returns-in_err-next c = rw c.from_residual.ensures (λ x rest g e. laws.code-none x rest g c.in_default.ensures c.in_err-next.ensures e)
 
-pub returns-in-NoLiteral-literal_at : goal.returns-in-NoLiteral-literal_at
+pub returns : goal.returns
 unfolding code_text
-returns-in-NoLiteral-literal_at c =
-    let l = c.in-NoLiteral-literal_at.ensures in
-    let k = c.in-NoLiteral.ensures in
-    λ x rest g e. laws.code-none x rest g k l e
+returns c =
+    let drop = c.in_ok-next.ensures in
+    record { within = drop.0; good = inr refl; stands = drop.1 }

@@ -1,41 +1,26 @@
--- `lines::rack_at` meets its contract: it reads a fixed text and a number, and then answers as the end does. Assumes nothing.
-use Prim.Native.Nat.{ℕ}
-use mathlib.Core.Path.{refl, sym, subst}
-use mathlib.Core.List.{List, []}
-use lib.ListN.{drop}
-use Rattle.model.specs.Text.{bytes}
-use Rattle.lines.proofs.Pieces.{Between, between, between-sole, printed, not-printed, not-before, not-number, not_first, after, absent, found}
+-- `lines::rack_at` meets its contract: it reads a fixed text, a number and the end of line 1. Assumes nothing.
+use mathlib.Core.Path.{refl}
+use Rattle.lines.proofs.Pieces.{between, between-sole, printed, not-printed, not-before, not-number, first_absent, second_absent, found}
 use Rattle.lines.proofs.Laws.{rack-form}
-use Rattle.lines.specs.Clauses.{RackEndAt, RackAt}
-use Rattle.lines.specs.declared.RackRead.{RackRead}
-use Rattle.lines.specs.declared.RackRead.TheVariants.{Rack, NoRack}
 use Rattle.lines.proofs.rack_at.Goals as goal
 
--- line 1 up to its N
-abbrev Sized : List ℕ → ℕ → ℕ → ℕ → Type 0
-Sized s at n j = Between (bytes "(rack (boards ") [] (drop at s) n (drop j s)
+pub returns-in_err-i : goal.returns-in_err-i
+returns-in_err-i c = rw c.from_residual.ensures (first_absent rack-form (not-before c.in_err-i.ensures))
 
--- after N, the answer is that of the end
-rack-whole : (s : List ℕ) (at j n : ℕ) (r : RackRead) → Sized s at n j → RackEndAt s j n r → RackAt s at r
-rack-whole s at j n (Rack m settings next) size (same, end) =
-    let first : Sized s at m j = subst (λ (k : ℕ). Sized s at k j) (sym same) size in
-    found rack-form end.within (record { rest = drop j s; first = first; second = printed end })
-rack-whole s at j n NoRack size no_end = absent rack-form (after between-sole size (not-printed no_end))
+pub returns-in_err-n : goal.returns-in_err-n
+returns-in_err-n c =
+    let before = c.in_ok-i.ensures in
+    rw c.from_residual-in_err-n.ensures (first_absent rack-form (not-number before.1 c.in_err-n.ensures))
 
-pub returns-in_default : goal.returns-in_default
-returns-in_default c =
-    let refused = c.in_default.ensures in
-    absent rack-form (not_first (not-before refused))
-
-pub returns-in_default-number_at : goal.returns-in_default-number_at
-returns-in_default-number_at c =
-    let l = c.in-Next.ensures in
-    let refused = c.in_default-number_at.ensures in
-    absent rack-form (not_first (not-number l.1 refused))
+pub returns-in_err-settings : goal.returns-in_err-settings
+returns-in_err-settings c =
+    let before = c.in_ok-i.ensures in
+    let n = c.in_ok-n.ensures in
+    rw c.from_residual-in_err-settings.ensures (second_absent rack-form between-sole (between before.1 n.1 refl) (not-printed c.in_err-settings.ensures))
 
 pub returns : goal.returns
 returns c =
-    let l = c.in-Next.ensures in
-    let n = c.in-Value.ensures in
-    let a = c.args in
-    rack-whole a.text.now a.at c.in-Value.j c.in-Value.n c.rack_end_at.result (between l.1 n.1 refl) c.rack_end_at.ensures
+    let before = c.in_ok-i.ensures in
+    let n = c.in_ok-n.ensures in
+    let end = c.in_ok-settings.ensures in
+    found rack-form end.within (record { rest = _; first = between before.1 n.1 refl; second = printed end })

@@ -10,32 +10,14 @@ use Rattle.model.specs.Bytes.{image, fields_of, read}
 use Rattle.layout.specs.Setters.{set_rank}
 use Rattle.moves.specs.Proper.{ranked}
 use Rattle.moves.specs.Counts.{with_counts, recounted, none}
-use Rattle.moves.proofs.Held.{held-room, held-sized, held_small}
+use Rattle.moves.proofs.Held.{held-room, held_small}
 use Rattle.moves.proofs.RankSteps.{rank-listed, enter-counts, enter-bytes}
 use Rattle.moves.proofs.enter.Goals.{After-zero_counts, Start}
 use Rattle.moves.proofs.enter.Goals as goal
 
-pub lower_counts-requires : goal.lower_counts-requires
-lower_counts-requires c = c.requires
-
 -- the level is one of the shape's
 level : (s : Start) → s.args.i < low.levels
 level s = omega (arith, held-room s.requires.held, s.requires.u_bound.2)
-
-pub overflow_add-i : goal.overflow_add-i
-overflow_add-i c = omega (arith, level (goal.at.overflow_add-i c).Start)
-
-pub zero_counts-requires : goal.zero_counts-requires
-zero_counts-requires c = record {
-  sized = omega (arith, c.lower_counts.auto.rack, held-sized c.requires.held);
-  u_lt_most = (held_small c.requires.held _ c.requires.u_bound.0, omega (arith, level (goal.at.zero_counts-requires c).Start));
-}
-
-pub overflow_add-i-2 : goal.overflow_add-i-2
-overflow_add-i-2 c = omega (arith, level (goal.at.overflow_add-i-2 c).Start)
-
-pub overflow_cast-i : goal.overflow_cast-i
-overflow_cast-i c = omega (arith, level (goal.at.overflow_cast-i c).Start)
 
 -- the counts before the new rank is set
 counted : (c : After-zero_counts) →
@@ -48,7 +30,6 @@ counted c =
 
 pub set_rank-requires : goal.set_rank-requires
 set_rank-requires c = record {
-  sized = omega (arith, c.zero_counts.auto.rack, c.lower_counts.auto.rack, held-sized c.requires.held);
   v_lt_most = (
     held_small c.requires.held _ c.requires.u_bound.0,
     rank-listed (read low c.args.rack.now) c.requires.held.proper _ c.args.u c.requires.u_bound.0 c.zero_counts.new.rack

@@ -10,7 +10,7 @@ use Rattle.model.specs.Bytes.{image, fields_of, read}
 use Rattle.layout.specs.Setters.{set_phi, set_rank}
 use Rattle.moves.specs.Proper.{ranked}
 use Rattle.moves.specs.Counts.{with_counts}
-use Rattle.moves.proofs.Held.{held-room, held-sized, held_small}
+use Rattle.moves.proofs.Held.{held-room, held_small}
 use Rattle.moves.proofs.RankSteps.{rank-listed, fall-counts, fall-bytes, fall-fits, fall-says}
 use Rattle.moves.proofs.fall.Goals.{After-set_phi, Start}
 use Rattle.moves.proofs.fall.Goals as goal
@@ -26,21 +26,8 @@ fits c =
           (read low a.rack.now) c.requires.held.proper a.i a.v c.requires.v_bound.0 c.requires.v_bound.2 c.requires.row_below.0 c.requires.v_bound.1,
     )
 
-pub raise_counts-low-requires : goal.raise_counts-low-requires
-raise_counts-low-requires c = record { held = c.requires.held; v_bound = c.requires.v_bound; row_below = c.requires.row_below.0 }
-
 pub overflow_cast-k : goal.overflow_cast-k
 overflow_cast-k c = omega (arith, fits (goal.at.overflow_cast-k c).Start)
-
-pub set_phi-requires : goal.set_phi-requires
-set_phi-requires c = record {
-  sized = omega (arith, c.raise_counts-low.auto.rack, held-sized c.requires.held);
-  v_lt_most = held_small c.requires.held _ c.requires.v_bound.0;
-  j_lt_levels = omega (arith, held-room c.requires.held, c.requires.v_bound.2);
-}
-
-pub overflow_cast-i : goal.overflow_cast-i
-overflow_cast-i c = omega (arith, held-room c.requires.held, c.requires.v_bound.2)
 
 -- the counts before the new rank is set
 recounted : (c : After-set_phi) →
@@ -53,7 +40,6 @@ recounted c =
 
 pub set_rank-requires : goal.set_rank-requires
 set_rank-requires c = record {
-  sized = omega (arith, c.set_phi.auto.rack, c.raise_counts-low.auto.rack, held-sized c.requires.held);
   v_lt_most = (
     held_small c.requires.held _ c.requires.v_bound.0,
     rank-listed (read low c.args.rack.now) c.requires.held.proper _ c.args.v c.requires.v_bound.0 c.set_phi.new.rack

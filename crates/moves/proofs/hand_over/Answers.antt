@@ -1,12 +1,12 @@
 -- `moves::hand_over` meets its contract. The loop's invariant: the words before word k are done. Assumes nothing.
-use mathlib.Core.Path.{◌≡◌, sym, ◌∙◌}
+use mathlib.Core.Path.{◌≡◌, ◌∙◌}
 use Prim.Native.Nat.{◌*◌, ◌≤◌, ◌<◌}
 use native.Mathlib.Omega.{arith}
 use Rattle.model.specs.Shape.{low}
 use Rattle.model.specs.State.{State}
 use Rattle.model.specs.Bytes.{read}
-use Rattle.moves.proofs.Held.{held-sized, held-size}
-use Rattle.moves.proofs.HandWords.{over-start, over-held, over-asks, over-next, over-bytes, over-numbers}
+use Rattle.moves.proofs.Held.{held-size}
+use Rattle.moves.proofs.HandWords.{over-start, over-asks, over-next, over-bytes, over-numbers}
 use Rattle.moves.proofs.hand_over.Goals.{At-loop-k, In-loop-k, Start}
 use Rattle.moves.proofs.hand_over.Goals as goal
 
@@ -17,38 +17,25 @@ state s = read low s.args.rack.now
 size_is : (c : At-loop-k) → c.size-n.result ≡ (state (goal.at.At-loop-k c).Start).n
 size_is c = c.size-n.ensures ∙ held-size c.requires.held.0
 
-pub size-n-requires : goal.size-n-requires
-size-n-requires c = held-sized c.requires.held.0
-
 pub loop-k-init : goal.loop-k-init
 loop-k-init c = over-start (state (goal.at.loop-k-init c).Start) c.requires.held.0.proper c.args.i c.args.v c.requires.held.0.written
-
-pub overflow_mul-k : goal.overflow_mul-k
-overflow_mul-k c = record { fits = omega (arith, c.loop-k.invariant.within) }
 
 -- in a turn the word has vertices
 inside : (c : In-loop-k) → 64 * c.loop-k.k < (state (goal.at.In-loop-k c).Start).n
 inside c = omega (arith, c.loop-k-test.true, size_is (goal.at.In-loop-k c).At-loop-k)
 
 pub hand_word-split-requires : goal.hand_word-split-requires
-hand_word-split-requires c =
-    let t = over-asks (state (goal.at.hand_word-split-requires c).Start) c.requires.held.0.proper c.args.i c.args.v c.loop-k.invariant c.requires.v_bound.0 c.requires.v_bound.1 (inside (goal.at.hand_word-split-requires c).In-loop-k) in
+hand_word-split-requires c = let a = c.args in
+    let p = c.requires.held.0.proper in
+    let v = c.requires.v_bound in
+    let word = inside (goal.at.hand_word-split-requires c).In-loop-k in
+    let t = over-asks (state (goal.at.hand_word-split-requires c).Start) p a.i a.v c.loop-k.invariant v.0 v.1 word in
     record { held = t.0; v_bound = t.1.0; handed_le_most = t.1.1 }
-
-pub overflow_add-k : goal.overflow_add-k
-overflow_add-k c = record { fits = omega (arith, c.loop-k.invariant.within) }
-
-pub loop-k-smaller : goal.loop-k-smaller
-loop-k-smaller c = omega (arith, c.loop-k-test.true)
 
 pub loop-k-preserved : goal.loop-k-preserved
 loop-k-preserved c = let e = c.hand_word-split.ensures in
     over-next (state (goal.at.loop-k-preserved c).Start) c.requires.held.0.proper c.args.i c.args.v c.loop-k.invariant
     (inside (goal.at.loop-k-preserved c).In-loop-k) e.rack_after e.handed_value e.below_value
-
-pub shape_of-rack : goal.shape_of-rack
-shape_of-rack c = held-sized (over-held (state (goal.at.shape_of-rack c).Start) c.requires.held.0.proper c.args.i c.args.v c.loop-k.invariant) ∙ sym
-    (held-sized c.requires.held.0)
 
 pub returns : goal.returns
 returns c = let l = c.loop-k in

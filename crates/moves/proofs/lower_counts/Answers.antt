@@ -8,15 +8,14 @@ use Rattle.model.specs.Counting.{upd}
 use Rattle.model.specs.Shape.{low}
 use Rattle.model.specs.State.{State}
 use Rattle.model.specs.Bytes.{phi_at, read}
-use Rattle.layout.specs.Setters.{Sized}
 use Rattle.moves.specs.Counts.{hit, lowered_counts}
-use Rattle.moves.proofs.Held.{held-room, held-sized, held_small, held-rank}
+use Rattle.moves.proofs.Held.{held-room, held-rank}
 use Rattle.moves.proofs.Recount.{hit-counted}
 use Rattle.moves.proofs.Choices.{hit-of}
 use Rattle.model.proofs.Shapes.{low-good}
 use Rattle.layout.proofs.Walks.{row-whole}
 use Rattle.layout.proofs.Reached.{reached, further-less}
-use Rattle.moves.proofs.CountWalk.{Counted, counted-sized, counted-rank, counted-phi, Walk, u-small, row-starts, w-reached, w-small, w-owned, w-sized, row-goes-on, row_ends, same_size, row_low, lowered-quiet, lowered-turn}
+use Rattle.moves.proofs.CountWalk.{Counted, counted-rank, counted-phi, Walk, u-small, row-starts, w-reached, w-small, w-owned, row-goes-on, row_ends, row_low, lowered-quiet, lowered-turn}
 use Rattle.moves.proofs.lower_counts.Goals.{After-place-w, After-rank-r, At-loop-at, In-loop-at, Joined-r-from, Start, else-r-from, then-r-from}
 use Rattle.moves.proofs.lower_counts.Goals as goal
 
@@ -30,9 +29,6 @@ walk d = record {
 
 level : (at : At-loop-at) → at.args.i < low.levels
 level at = omega (arith, held-room at.requires.held, at.requires.u_bound.2)
-
-sized : (at : At-loop-at) → Sized low at.loop-at.rack
-sized at = w-sized (walk (goal.at.At-loop-at at).Start) at.loop-at.invariant
 
 abbrev state : At-loop-at → State
 state at = read low at.args.rack.now
@@ -96,7 +92,10 @@ turned c =
     let r = rank_is (goal.at.Joined-r-from c).After-rank-r in
     let b = rank-low (goal.at.Joined-r-from c).After-place-w in
     let under = c.requires.u_bound in
-    let step = lowered-turn (state (goal.at.Joined-r-from c).At-loop-at) c.requires.held.proper a.i a.u l.rack l.at l.invariant c.place-w.result c.if-r-from.rack (place (goal.at.Joined-r-from c).After-place-w) (small (goal.at.Joined-r-from c).After-place-w) under.2
+    let s = state (goal.at.Joined-r-from c).At-loop-at in
+    let at = place (goal.at.Joined-r-from c).After-place-w in
+    let few = small (goal.at.Joined-r-from c).After-place-w in
+    let step = lowered-turn s c.requires.held.proper a.i a.u l.rack l.at l.invariant c.place-w.result c.if-r-from.rack at few under.2
     (owned (goal.at.Joined-r-from c).After-place-w) in
     elim c.if-r-from.branch [
       | then-r-from k ↦ step from (omega arith) (omega (arith, k.if-r-from.true)) (λ x c q. omega arith) (omega arith)
@@ -105,23 +104,8 @@ turned c =
           (k.rack-is ∙ k.step_counts-else-r-from.ensures)
     ]
 
-pub rank-from-requires : goal.rank-from-requires
-rank-from-requires c = let h = c.requires.held in record { sized = held-sized h; v_lt_most = held_small h _ c.requires.u_bound.0 }
-
-pub first-at-requires : goal.first-at-requires
-first-at-requires c = record { sized = held-sized c.requires.held; v_lt_most = u-small (walk (goal.at.first-at-requires c).Start) }
-
 pub loop-at-init : goal.loop-at-init
 loop-at-init c = row-starts (walk (goal.at.loop-at-init c).Start) c.first-at.ensures
-
-pub place-w-requires : goal.place-w-requires
-place-w-requires c = record { rest_nonzero = some c; word_bound = (c.loop-at.invariant.here (some c)).inside }
-
-pub rank-r-requires : goal.rank-r-requires
-rank-r-requires c = record { sized = sized (goal.at.rank-r-requires c).At-loop-at; v_lt_most = small c }
-
-pub overflow_add-i : goal.overflow_add-i
-overflow_add-i c = omega (arith, level (goal.at.overflow_add-i c).At-loop-at)
 
 pub overflow_sub-i : goal.overflow_sub-i
 overflow_sub-i c = omega (arith, from_is (goal.at.overflow_sub-i c).At-loop-at)
@@ -130,13 +114,9 @@ pub step_counts-requires : goal.step_counts-requires
 step_counts-requires c = let r = rank_is (goal.at.step_counts-requires c).After-rank-r in
     let f = from_is (goal.at.step_counts-requires c).At-loop-at in
     record {
-      sized = sized (goal.at.step_counts-requires c).At-loop-at;
       w_lt_most = (small (goal.at.step_counts-requires c).After-place-w, omega (arith, level (goal.at.step_counts-requires c).At-loop-at));
       by_index = λ x a b. counted (goal.at.step_counts-requires c).After-place-w x a (omega arith) (omega arith);
     }
-
-pub overflow_add-i-else-r-from : goal.overflow_add-i-else-r-from
-overflow_add-i-else-r-from c = omega (arith, level (goal.at.overflow_add-i-else-r-from c).At-loop-at)
 
 pub overflow_sub-i-else-r-from : goal.overflow_sub-i-else-r-from
 overflow_sub-i-else-r-from c = omega
@@ -146,7 +126,6 @@ pub step_counts-requires-else-r-from : goal.step_counts-requires-else-r-from
 step_counts-requires-else-r-from c = let r = rank_is (goal.at.step_counts-requires-else-r-from c).After-rank-r in
     let b = rank-low (goal.at.step_counts-requires-else-r-from c).After-place-w in
     record {
-      sized = sized (goal.at.step_counts-requires-else-r-from c).At-loop-at;
       w_lt_most = (
         small (goal.at.step_counts-requires-else-r-from c).After-place-w,
         omega
@@ -154,14 +133,6 @@ step_counts-requires-else-r-from c = let r = rank_is (goal.at.step_counts-requir
       );
       by_index = λ x a b. counted (goal.at.step_counts-requires-else-r-from c).After-place-w x (omega arith) (omega arith) (omega arith);
     }
-
-pub next-at-requires : goal.next-at-requires
-next-at-requires c = record {
-  sized = counted-sized (state (goal.at.next-at-requires c).At-loop-at) c.requires.held.proper _ c.if-r-from.rack (turned c);
-  v_lt_most = u-small (walk (goal.at.next-at-requires c).Start);
-  rest_nonzero = some (goal.at.next-at-requires c).In-loop-at;
-  word_bound = (c.loop-at.invariant.here (some (goal.at.next-at-requires c).In-loop-at)).inside;
-}
 
 pub loop-at-smaller : goal.loop-at-smaller
 loop-at-smaller c = let here = c.loop-at.invariant.here (some (goal.at.loop-at-smaller c).In-loop-at) in
@@ -176,9 +147,6 @@ loop-at-smaller c = let here = c.loop-at.invariant.here (some (goal.at.loop-at-s
 pub loop-at-preserved : goal.loop-at-preserved
 loop-at-preserved c = row-goes-on (walk (goal.at.loop-at-preserved c).Start) c.loop-at.invariant
     (some (goal.at.loop-at-preserved c).In-loop-at) c.place-w.ensures (turned (goal.at.loop-at-preserved c).Joined-r-from) c.next-at.ensures
-
-pub shape_of-rack : goal.shape_of-rack
-shape_of-rack c = same_size (walk (goal.at.shape_of-rack c).Start) c.loop-at.invariant
 
 pub returns : goal.returns
 returns c = row_ends (walk (goal.at.returns c).Start) c.loop-at.invariant c.loop-at-test.false

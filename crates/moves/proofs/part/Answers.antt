@@ -1,5 +1,5 @@
 -- `moves::part` meets its contract. The entry of v's mate tells whether v is free. Assumes nothing.
-use mathlib.Core.Path.{◌≡◌, sym, ap, ap₂, ◌∙◌}
+use mathlib.Core.Path.{◌≡◌, refl, sym, ap, ap₂, ◌∙◌}
 use mathlib.Core.Logic.{◌≢◌}
 use mathlib.Core.List.{List}
 use Prim.Native.Nat.{ℕ, ◌<◌}
@@ -10,7 +10,7 @@ use Rattle.model.specs.Moves.{part}
 use Rattle.model.proofs.Limits.{mate_entry-mate}
 use Rattle.layout.specs.Setters.{set_mate}
 use Rattle.moves.specs.Proper.{Held}
-use Rattle.moves.proofs.Held.{held-sized, held-few, held-mate, held_small}
+use Rattle.moves.proofs.Held.{held-few, held-mate, held_small}
 use Rattle.moves.proofs.Pairs.{entry_free, entry-mate, part_free, part-image}
 use Rattle.moves.proofs.part.Goals as goal
 
@@ -33,24 +33,14 @@ module _ {bs : List ℕ} (h : Held low bs) {v : ℕ} (l : v < (read low bs).n) {
   parts d = ap₂ (λ (b : List ℕ) (x : ℕ). set_mate low (set_mate low b x no_mate) v no_mate) h.written (named d) ∙ part-image
       (read low bs) h.proper v l
 
-pub mate-m-requires : goal.mate-m-requires
-mate-m-requires c = record { sized = held-sized c.requires.held; v_lt_most = held_small c.requires.held c.args.v c.requires.v_bound }
-
-pub returns-then-m : goal.returns-then-m
-returns-then-m c = stays c.requires.held c.requires.v_bound c.mate-m.ensures c.if-m.true
+pub returns-in_default : goal.returns-in_default
+returns-in_default c = stays c.requires.held c.requires.v_bound refl c.in_default.ensures
 
 pub set_mate-requires : goal.set_mate-requires
 set_mate-requires c = record {
-  sized = held-sized c.requires.held;
-  v_lt_most = within c.requires.held c.requires.v_bound c.mate-m.ensures c.if-m.false;
-}
-
-pub set_mate-requires-2 : goal.set_mate-requires-2
-set_mate-requires-2 c = record {
-  sized = c.set_mate.auto.rack ∙ held-sized c.requires.held;
-  v_lt_most = held_small c.requires.held c.args.v c.requires.v_bound;
+  v_lt_most = within c.requires.held c.requires.v_bound c.in-Some.ensures.0 c.in-Some.ensures.1;
 }
 
 pub returns : goal.returns
 returns c = c.set_mate-2.ensures ∙ ap (λ (bs : List ℕ). set_mate low bs c.args.v no_mate) c.set_mate.ensures
-    ∙ parts c.requires.held c.requires.v_bound c.mate-m.ensures c.if-m.false
+    ∙ parts c.requires.held c.requires.v_bound c.in-Some.ensures.0 c.in-Some.ensures.1

@@ -9,15 +9,13 @@ use Rattle.model.specs.Shape.{low}
 use Rattle.model.specs.State.{State}
 use Rattle.model.specs.Bytes.{read}
 use Rattle.model.proofs.Facts.{Says}
-use Rattle.layout.specs.Setters.{Sized}
 use Rattle.layout.proofs.Said.{says_is}
 use Rattle.moves.specs.Counts.{raised_counts}
-use Rattle.moves.proofs.Held.{held-room, held-sized}
 use Rattle.moves.proofs.Recount.{raised-fits}
 use Rattle.model.proofs.Shapes.{low-good}
 use Rattle.layout.proofs.Walks.{row-whole}
 use Rattle.layout.proofs.Reached.{reached, further-less}
-use Rattle.moves.proofs.CountWalk.{Counted, counted-sized, Walk, u-small, came-first, row-starts, w-reached, w-small, w-owned, w-sized, came-next, row-goes-on, row_ends, same_size, raised-quiet, raised_is, raised-turn, LowTo, low-start, low-yes, low-no, low_end}
+use Rattle.moves.proofs.CountWalk.{Counted, Walk, came-first, row-starts, w-reached, w-small, w-owned, came-next, row-goes-on, row_ends, raised-quiet, raised_is, raised-turn, LowTo, low-start, low-yes, low-no, low_end}
 use Rattle.moves.proofs.raise_counts.Goals.{After-next-at, After-phi-c, After-place-w, After-set_phi, At-loop-at, In-loop-at, Start, else-bar-c, then-bar-c}
 use Rattle.moves.proofs.raise_counts.Goals as goal
 
@@ -31,12 +29,6 @@ walk d = record {
 
 abbrev state : At-loop-at → State
 state at = read low at.args.rack.now
-
-level : (at : At-loop-at) → at.args.i < low.levels
-level at = omega (arith, held-room at.requires.held, at.requires.v_bound.2)
-
-sized : (at : At-loop-at) → Sized low at.loop-at.rack
-sized at = w-sized (walk (goal.at.At-loop-at at).Start) at.loop-at.invariant.0
 
 some : (c : In-loop-at) → 0 < c.loop-at.at.rest
 some c = omega (arith, c.loop-at-test.true)
@@ -68,7 +60,9 @@ turned : (c : After-set_phi)
 turned c =
     let a = c.args in
     let l = c.loop-at in
-    raised-turn (state (goal.at.After-set_phi c).At-loop-at) c.requires.held.proper a.i a.v l.rack l.at l.invariant.0 c.place-w.result c.set_phi.new.rack c.phi-c.result (place (goal.at.After-set_phi c).After-place-w)
+    let s = state (goal.at.After-set_phi c).At-loop-at in
+    let w = place (goal.at.After-set_phi c).After-place-w in
+    raised-turn s c.requires.held.proper a.i a.v l.rack l.at l.invariant.0 c.place-w.result c.set_phi.new.rack c.phi-c.result w
     (small (goal.at.After-set_phi c).After-place-w) c.requires.v_bound.2 (raised (goal.at.After-set_phi c).After-phi-c) c.set_phi.ensures
 
 -- after either branch `low` speaks of w too
@@ -91,9 +85,6 @@ lows c =
           (omega (arith, k.if-bar-c.false)))
     ]
 
-pub first-at-requires : goal.first-at-requires
-first-at-requires c = record { sized = held-sized c.requires.held; v_lt_most = u-small (walk (goal.at.first-at-requires c).Start) }
-
 pub loop-at-init : goal.loop-at-init
 loop-at-init c = let a = c.args in (
   row-starts (walk (goal.at.loop-at-init c).Start) c.first-at.ensures,
@@ -101,43 +92,16 @@ loop-at-init c = let a = c.args in (
       (came-first (walk (goal.at.loop-at-init c).Start) c.first-at.ensures),
 )
 
-pub place-w-requires : goal.place-w-requires
-place-w-requires c = record { rest_nonzero = some c; word_bound = (c.loop-at.invariant.0.here (some c)).inside }
-
-pub phi-c-requires : goal.phi-c-requires
-phi-c-requires c = record {
-  sized = sized (goal.at.phi-c-requires c).At-loop-at;
-  v_lt_most = small c;
-  j_lt_levels = level (goal.at.phi-c-requires c).At-loop-at;
-}
-
 fits : (c : After-phi-c) → c.phi-c.result + 1 < low.most
 fits c =
     let a = c.args in
-    let few = raised-fits (state (goal.at.After-phi-c c).At-loop-at) c.requires.held.proper a.i a.v c.place-w.result c.requires.v_bound.0 c.requires.v_bound.1 c.requires.row_below in
+    let s = state (goal.at.After-phi-c c).At-loop-at in
+    let v = c.requires.v_bound in
+    let few = raised-fits s c.requires.held.proper a.i a.v c.place-w.result v.0 v.1 c.requires.row_below in
     omega (arith, raised c, few (owned (goal.at.After-phi-c c).After-place-w))
 
 pub overflow_add-c : goal.overflow_add-c
 overflow_add-c c = omega (arith, fits c)
-
-pub set_phi-requires : goal.set_phi-requires
-set_phi-requires c = record {
-  sized = sized (goal.at.set_phi-requires c).At-loop-at;
-  v_lt_most = small (goal.at.set_phi-requires c).After-place-w;
-  j_lt_levels = level (goal.at.set_phi-requires c).At-loop-at;
-}
-
-pub overflow_cast-c : goal.overflow_cast-c
-overflow_cast-c c = omega (arith, fits (goal.at.overflow_cast-c c).After-phi-c)
-
-pub next-at-requires : goal.next-at-requires
-next-at-requires c = record {
-  sized = counted-sized (state (goal.at.next-at-requires c).At-loop-at) c.requires.held.proper _ c.set_phi.new.rack
-      (turned (goal.at.next-at-requires c).After-set_phi);
-  v_lt_most = u-small (walk (goal.at.next-at-requires c).Start);
-  rest_nonzero = some (goal.at.next-at-requires c).In-loop-at;
-  word_bound = (c.loop-at.invariant.0.here (some (goal.at.next-at-requires c).In-loop-at)).inside;
-}
 
 pub loop-at-smaller : goal.loop-at-smaller
 loop-at-smaller c = let here = c.loop-at.invariant.0.here (some (goal.at.loop-at-smaller c).In-loop-at) in
@@ -155,9 +119,6 @@ loop-at-preserved c = (
       (some (goal.at.loop-at-preserved c).In-loop-at) c.place-w.ensures (turned (goal.at.loop-at-preserved c).After-set_phi) c.next-at.ensures,
   lows c,
 )
-
-pub shape_of-rack : goal.shape_of-rack
-shape_of-rack c = same_size (walk (goal.at.shape_of-rack c).Start) c.loop-at.invariant.0
 
 pub returns : goal.returns
 returns c = let l = c.loop-at in

@@ -11,9 +11,6 @@ use Rattle.moves.proofs.Held.{top-as, reads_as, held_of}
 use Rattle.moves.proofs.Keeps.{took-proper, took-row, rise-halves}
 use Rattle.moves.proofs.rise.Goals as goal
 
-pub take_over-requires : goal.take_over-requires
-take_over-requires c = c.requires
-
 pub enter-requires : goal.enter-requires
 unfolding took_over reown
 enter-requires c = let a = c.args in

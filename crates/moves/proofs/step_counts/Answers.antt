@@ -1,5 +1,5 @@
 -- `moves::step_counts` meets its contract. The loop's invariant: the counts at the first x levels have been stepped. Assumes nothing.
-use mathlib.Core.Path.{◌≡◌, refl, sym, ap, ◌∙◌, subst}
+use mathlib.Core.Path.{refl, sym, ap, ◌∙◌, subst}
 use mathlib.Core.Bool.{Bool}
 use Prim.Native.Nat.{◌+◌}
 use native.Mathlib.Omega.{arith}
@@ -17,18 +17,12 @@ room : (c : After-phi-c) → CanStep (more_of c) (largest_count low) c.phi-c.res
 room c =
     let a = c.args in
     let l = c.loop-x in
-    let e = c.phi-c.ensures ∙ next-count low (step a.more) a.rack.now a.w a.j l.x l.invariant.1.1 in
+    let e = c.phi-c.ensures ∙ next-count low (step a.more) a.rack.now a.w a.j l.x l.invariant in
     subst (CanStep a.more (largest_count low)) (sym e) (c.requires.by_index (a.j + l.x) (omega arith) (omega arith))
 
 pub loop-x-init : goal.loop-x-init
 unfolding recounted
-loop-x-init c = (omega arith, (refl, refl))
-
-pub overflow_add-j : goal.overflow_add-j
-overflow_add-j c = omega arith
-
-pub overflow_add-j-in-loop-x : goal.overflow_add-j-in-loop-x
-overflow_add-j-in-loop-x c = omega arith
+loop-x-init c = refl
 
 pub stepped-requires : goal.stepped-requires
 stepped-requires c = step-wider (more_of (goal.at.stepped-requires c).After-phi-c) c.phi-c.result (omega arith)
@@ -42,12 +36,6 @@ overflow_cast-stepped c = omega (
       (room (goal.at.overflow_cast-stepped c).After-phi-c),
 )
 
-pub overflow_add-x : goal.overflow_add-x
-overflow_add-x c = omega arith
-
-pub loop-x-smaller : goal.loop-x-smaller
-loop-x-smaller c = omega arith
-
 pub loop-x-preserved : goal.loop-x-preserved
 loop-x-preserved c = let put = c.set_phi in
     let new = c.stepped in
@@ -55,14 +43,4 @@ loop-x-preserved c = let put = c.set_phi in
     let l = c.loop-x in
     let a = c.args in
     let e = new.ensures ∙ ap (step a.more) got.ensures in
-    let more = next_level low (step a.more) a.rack.now a.w a.j l.x l.invariant.1.1 _ _ refl e put.ensures in
-    (omega arith, (omega (arith, put.auto.rack), more))
-
-pub shape_of-rack : goal.shape_of-rack
-shape_of-rack c = c.loop-x.invariant.1.0
-
-pub returns : goal.returns
-returns c = let a = c.args in
-    let l = c.loop-x in
-    let e : l.x ≡ a.k = omega arith in
-    l.invariant.1.1 ∙ ap (recounted low (step a.more) a.rack.now a.w a.j) e
+    next_level low (step a.more) a.rack.now a.w a.j l.x l.invariant _ _ refl e put.ensures

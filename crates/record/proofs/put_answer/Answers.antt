@@ -1,20 +1,13 @@
--- `record::put_answer` meets its contract. By its number: the line of `model` is that of a change made or of one refused. Assumes nothing.
-use mathlib.Core.Path.{sym}
-use native.Mathlib.Omega.{arith}
+-- `record::put_answer` meets its contract: the line of `model` is that of a change made or of one refused. Assumes nothing.
+use Rattle.std.proofs.Common.{sym, ap, ◌∙◌}
 use Rattle.text.proofs.Over.{put_as}
-use Rattle.record.specs.Line.{answered}
-use Rattle.record.proofs.Laws.{put-one-as, put-three-as, answer-done, answer-refused}
+use Rattle.record.specs.Line.{refused_text}
+use Rattle.record.proofs.Laws.{told-done, told-refused}
 use Rattle.record.proofs.put_answer.Goals as goal
 
-pub returns-then-number-eq0 : goal.returns-then-number-eq0
-returns-then-number-eq0 c =
-    let a = c.args in
-    put_as _ _ (sym (answer-done (answered a.number a.draws a.falls a.pairs) (omega arith)))
-    (put-three-as _ _ _ _ _ _ _ _ _ _ c.put_done.ensures a.draws a.falls a.pairs (omega arith) (omega arith) (omega arith))
+pub returns-in-Ok : goal.returns-in-Ok
+returns-in-Ok c = rw c.in-Ok.is (put_as _ _ (sym (told-done c.in-Ok.figures)) c.put_done.ensures)
 
-pub returns-else-number-eq0 : goal.returns-else-number-eq0
-returns-else-number-eq0 c =
-    let a = c.args in
-    let refused = c.if-number-eq0.false in
-    put_as _ _ (sym (answer-refused (answered a.number a.draws a.falls a.pairs) refused))
-    (put-one-as _ _ a.number _ (omega arith) c.put_refused.ensures)
+pub returns-in-Err : goal.returns-in-Err
+returns-in-Err c =
+    rw c.in-Err.is (put_as _ _ (ap refused_text c.from.ensures ∙ sym (told-refused c.in-Err.why)) c.put_refused.ensures)

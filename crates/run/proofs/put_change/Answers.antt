@@ -1,16 +1,13 @@
 -- `run::put_change` meets its contract. Assumes nothing.
 use native.Mathlib.Omega.{arith}
+use Rattle.calls.specs.Terms.{code_of}
 use Rattle.trace.proofs.RecordFits.{draws-few}
 use Rattle.changes.specs.Sounded.{brought}
-use Rattle.run.proofs.Turns.{sounded-valid, line_as}
+use Rattle.run.proofs.Turns.{sounded-valid}
 use Rattle.run.proofs.put_change.Goals as goal
 
 -- the draws fit the record's figure
-pub overflow_cast-x : goal.overflow_cast-x
-overflow_cast-x c = let a = c.args in
-    let few = draws-few _ (sounded-valid c.requires.sounded) (brought a.code a.a a.b a.words.now) c.requires.words_len_bound.0 in
-    omega (arith, c.change-x.ensures.answers.draws, few)
-
-pub returns : goal.returns
-returns c = let e = c.change-x.ensures in
-    record { leaves = e.leaves; prints = line_as e.answers c.put_answer.ensures }
+pub put_answer-requires-clause-draws_fit : goal.put_answer-requires-clause-draws_fit
+put_answer-requires-clause-draws_fit c = let a = c.args in
+    let few = draws-few _ (sounded-valid c.requires.sounded) (brought (code_of a.line.kind) a.line.a a.line.b a.words.now) c.requires.words_len_bound.0 in
+    rw (c.change-answer.ensures.answers, c.from-code.ensures) (omega (arith, few))

@@ -34,18 +34,16 @@ slice_bounds-put_last-count c = omega (arith, room (goal.at.slice_bounds-put_las
 pub slice_bounds-put_last-start : goal.slice_bounds-put_last-start
 slice_bounds-put_last-start c = omega (arith, room (goal.at.slice_bounds-put_last-start c).After-put_pairs-at)
 
-pub put_last-k-requires : goal.put_last-k-requires
-put_last-k-requires c = let w = c.put_pairs-at in
-    record {
-      sounded = c.requires.sounded;
-      end_room_in_bounds = omega (arith, room (goal.at.put_last-k-requires c).After-put_pairs-at, length_part w.result w.new.out);
-    }
+pub put_last-requires-clause-end_room_in_bounds : goal.put_last-requires-clause-end_room_in_bounds
+put_last-requires-clause-end_room_in_bounds c =
+    let w = c.put_pairs-at in
+    omega (arith, room (goal.at.put_last-requires-clause-end_room_in_bounds c).After-put_pairs-at, length_part w.result w.new.out)
 
 pub overflow_add-result : goal.overflow_add-result
 overflow_add-result c = record {
   fits = omega (
     arith,
-    c.put_last-k.ensures.count,
+    c.put_last.ensures.count,
     end-most (state (goal.at.overflow_add-result c).After-put_pairs-at) (small (goal.at.overflow_add-result c).After-put_pairs-at),
     c.put_pairs-at.ensures.count,
     pairs-most (state (goal.at.overflow_add-result c).After-put_pairs-at) (small (goal.at.overflow_add-result c).After-put_pairs-at),
@@ -55,4 +53,4 @@ overflow_add-result c = record {
 pub returns : goal.returns
 unfolding ending_text
 returns c = let w = c.put_pairs-at.ensures in
-    put_then w c.put_last-k.ensures (omega (arith, lines-few (goal.at.returns c).After-put_pairs-at, w.count))
+    put_then w c.put_last.ensures (omega (arith, lines-few (goal.at.returns c).After-put_pairs-at, w.count))

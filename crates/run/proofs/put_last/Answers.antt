@@ -10,7 +10,7 @@ use Rattle.model.specs.Record.{mean, end_text, end_line}
 use Rattle.record.specs.Line.{mean_of}
 use Rattle.text.specs.Writing.{Put}
 use Rattle.text.proofs.Over.{put_as}
-use Rattle.moves.proofs.Held.{held-sized, held-size, held-edges, held-few}
+use Rattle.moves.proofs.Held.{held-size, held-edges, held-few}
 use Rattle.changes.proofs.Wholes.{sounded-held}
 use Rattle.run.proofs.put_last.Goals.{After-edges, After-size-n}
 use Rattle.run.proofs.put_last.Goals as goal
@@ -38,17 +38,8 @@ end-as : (s : State) {p q r k : ℕ} {old new : List ℕ} → Put (end_text p (m
 unfolding mean
 end-as s w a b c = put_as _ _ (λ i. end_text (a i) (mean_of (b i) (c i))) w
 
-pub pairs-pairs-requires : goal.pairs-pairs-requires
-pairs-pairs-requires c = c.requires.sounded
-
-pub size-n-requires : goal.size-n-requires
-size-n-requires c = held-sized (sounded-held _ c.requires.sounded)
-
 pub overflow_cast-n : goal.overflow_cast-n
 overflow_cast-n c = omega (arith, size_is c, held-few (sounded-held _ c.requires.sounded))
-
-pub edges-requires : goal.edges-requires
-edges-requires c = held-sized (sounded-held _ c.requires.sounded)
 
 -- a rack has a vertex
 pub nonzero_div-twice : goal.nonzero_div-twice
@@ -56,9 +47,6 @@ nonzero_div-twice c = omega (arith, size_is (goal.at.nonzero_div-twice c).After-
 
 pub nonzero_rem-twice : goal.nonzero_rem-twice
 nonzero_rem-twice c = omega (arith, size_is (goal.at.nonzero_rem-twice c).After-size-n, c.requires.sounded.valid.some)
-
-pub put_end-requires : goal.put_end-requires
-put_end-requires c = c.requires.end_room_in_bounds
 
 pub returns : goal.returns
 returns c = let n = size_is (goal.at.returns c).After-size-n in

@@ -7,9 +7,9 @@ use Rattle.model.specs.Shape.{low}
 use Rattle.model.specs.Bytes.{read}
 use Rattle.text.specs.Rooms.{pair_room}
 use Rattle.text.proofs.Over.{length_part}
-use Rattle.moves.proofs.Held.{held-sized, held-size, held-few}
+use Rattle.moves.proofs.Held.{held-size, held-few}
 use Rattle.changes.proofs.Wholes.{sounded-held}
-use Rattle.run.proofs.Pairs.{listed_start, listed_kept, listed-room, listed-turn, listed-end}
+use Rattle.run.proofs.Pairs.{listed_start, listed-room, listed-turn, listed-end}
 use Rattle.run.proofs.put_pairs.Goals.{At-loop-v, In-loop-v}
 use Rattle.run.proofs.put_pairs.Goals as goal
 
@@ -24,44 +24,30 @@ inside c = omega (arith, c.loop-v-test.true, size_is (goal.at.In-loop-v c).At-lo
 room : (c : In-loop-v) → c.loop-v.at + pair_room ≤ length c.loop-v.out
 room c = listed-room c.requires.sounded c.requires.ending_room_in_bounds c.loop-v.invariant (inside c)
 
-pub size-n-requires : goal.size-n-requires
-size-n-requires c = held-sized (sounded-held _ c.requires.sounded)
-
 pub loop-v-init : goal.loop-v-init
 loop-v-init c = listed_start _ _
 
 pub slice_bounds-put_lower-count : goal.slice_bounds-put_lower-count
-slice_bounds-put_lower-count c = omega (arith, room c)
+slice_bounds-put_lower-count c = omega (arith, room (goal.at.slice_bounds-put_lower-count c).In-loop-v)
 
 pub slice_bounds-put_lower-start : goal.slice_bounds-put_lower-start
-slice_bounds-put_lower-start c = omega (arith, room c)
+slice_bounds-put_lower-start c = omega (arith, room (goal.at.slice_bounds-put_lower-start c).In-loop-v)
 
-pub put_lower-k-requires : goal.put_lower-k-requires
-put_lower-k-requires c = let l = c.loop-v in
-    record {
-      sounded = c.requires.sounded;
-      v_bound = (
-        inside (goal.at.put_lower-k-requires c).In-loop-v,
-        omega
-            (arith, room (goal.at.put_lower-k-requires c).In-loop-v, length_part l.at l.out),
-      );
-    }
+pub put_lower-at-requires-clause-v_bound : goal.put_lower-at-requires-clause-v_bound
+put_lower-at-requires-clause-v_bound c = let l = c.loop-v in (
+  inside (goal.at.put_lower-at-requires-clause-v_bound c).In-loop-v,
+  omega (arith, room (goal.at.put_lower-at-requires-clause-v_bound c).In-loop-v, length_part l.at l.out),
+)
 
 pub loop-v-preserved : goal.loop-v-preserved
 loop-v-preserved c = listed-turn c.requires.sounded c.requires.ending_room_in_bounds c.loop-v.invariant
-    (inside (goal.at.loop-v-preserved c).In-loop-v) c.put_lower-k.ensures
+    (inside (goal.at.loop-v-preserved c).In-loop-v) c.put_lower-at.ensures
 
 pub overflow_add-at : goal.overflow_add-at
 overflow_add-at c =
     let next = listed-turn c.requires.sounded c.requires.ending_room_in_bounds c.loop-v.invariant
-    (inside (goal.at.overflow_add-at c).In-loop-v) c.put_lower-k.ensures in
+    (inside (goal.at.overflow_add-at c).In-loop-v) c.put_lower-at.ensures in
     record { fits = omega (arith, next.few, next.inside, held-few (sounded-held _ c.requires.sounded)) }
-
-pub loop-v-smaller : goal.loop-v-smaller
-loop-v-smaller c = omega (arith, inside (goal.at.loop-v-smaller c).In-loop-v)
-
-pub shape_of-out : goal.shape_of-out
-shape_of-out c = listed_kept c.requires.sounded c.requires.ending_room_in_bounds c.loop-v.invariant
 
 pub returns : goal.returns
 returns c = listed-end c.requires.sounded c.requires.ending_room_in_bounds c.loop-v.invariant

@@ -1,53 +1,37 @@
 -- `run::put_record` meets its contract. Assumes nothing.
-use mathlib.Core.Path.{◌≡◌}
-use Prim.Native.Nat.{◌+◌, ◌≤◌}
+use mathlib.Core.Path.{◌≡◌, ap, subst}
 use native.Mathlib.Omega.{arith}
-use lib.ListN.{length}
 use Rattle.model.specs.Shape.{low}
-use Rattle.model.specs.State.{empty}
 use Rattle.model.specs.Bytes.{kind_at, read}
-use Rattle.lines.specs.Clauses.{named_by}
-use Rattle.text.proofs.Over.{put-kept}
+use Rattle.model.specs.Lists.{All}
+use Rattle.model.specs.Trace.{Trace, LineChange, rack_line}
+use Rattle.model.specs.Record.{kind_of, rack_of}
+use Rattle.text.specs.Writing.{Put}
+use Rattle.text.proofs.Over.{put_as}
 use Rattle.changes.specs.Sounded.{Sounded}
-use Rattle.run.specs.Recording.{kind_named}
-use Rattle.run.proofs.Whole.{fresh, first-room, ready, written, record-within}
-use Rattle.run.proofs.put_record.Goals.{After-put_first-at, After-slice_known-5-1, Start}
+use Rattle.run.proofs.Whole.{fresh, ready, written, record-within}
+use Rattle.run.proofs.put_record.Goals.{After-put_rack-at, Start}
 use Rattle.run.proofs.put_record.Goals as goal
 
-pub put_first-at-requires : goal.put_first-at-requires
-put_first-at-requires c = omega (arith, c.requires.recordable.enough)
-
--- line 1 ends within the space
-room : (c : After-put_first-at) → c.put_first-at.result ≤ length c.put_first-at.new.out
-room c = first-room c.requires.recordable c.put_first-at.ensures
-
-pub slice_bounds-put_changes-count : goal.slice_bounds-put_changes-count
-slice_bounds-put_changes-count c = omega (arith, room (goal.at.slice_bounds-put_changes-count c).After-put_first-at)
-
-pub slice_bounds-put_changes-start : goal.slice_bounds-put_changes-start
-slice_bounds-put_changes-start c = omega (arith, room (goal.at.slice_bounds-put_changes-start c).After-put_first-at)
-
 -- the rack that comes in is the one just made
-made : (d : Start) → let K = kind_named (named_by d.args.settings) in let bs = d.args.rack.now in
-    Sounded low bs × (read low bs ≡ empty K d.args.n) × (kind_at low bs ≡ K)
-made d = fresh _ (named_by d.args.settings) _ d.requires.n_value.0 d.requires.n_value.1
+made : (d : Start) → let a = d.args in let t = a.trace.now in Sounded low a.rack.now × (read low a.rack.now ≡ rack_of t) × (kind_at low a.rack.now ≡ kind_of t)
+made d = let a = d.args in fresh a.rack.now a.trace.now d.requires.made.0 d.requires.made.1
 
-pub put_changes-m-requires : goal.put_changes-m-requires
-put_changes-m-requires c = record {
-  sounded = (made (goal.at.put_changes-m-requires c).Start).0;
-  ready = ready c.requires.recordable c.put_first-at.ensures;
-}
+-- line 1 was printed
+first : (c : After-put_rack-at) → let t = c.args.trace.now in Put (rack_line t.n t.settings) c.args.space.now c.put_rack-at.new.out c.put_rack-at.result
+first c = put_as _ _ (ap (λ (t : Trace). rack_line t.n t.settings) c.trace.view_is) c.put_rack-at.ensures
+
+pub put_changes-requires-clause-sounded : goal.put_changes-requires-clause-sounded
+put_changes-requires-clause-sounded c = (made (goal.at.put_changes-requires-clause-sounded c).Start).0
+
+pub put_changes-requires-clause-ready : goal.put_changes-requires-clause-ready
+put_changes-requires-clause-ready c = ready c.args.trace.now c.requires.recordable (first (goal.at.put_changes-requires-clause-ready c).After-put_rack-at)
 
 pub returns : goal.returns
-returns c = written c.requires.recordable c.put_first-at.ensures
-    ((made (goal.at.returns c).Start).1, (made (goal.at.returns c).Start).2) c.put_changes-m.ensures
-
-fits : (c : After-slice_known-5-1)
-    → c.put_first-at.result + c.put_changes-m.result ≤ length c.args.space.now
-fits c = record-within c.requires.n_value.0 c.requires.recordable (returns c)
+returns c = let m = made (goal.at.returns c).Start in
+    written c.args.trace.now c.requires.recordable (first (goal.at.returns c).After-put_rack-at) (m.1, m.2) c.put_changes.ensures
 
 pub overflow_add-result : goal.overflow_add-result
-overflow_add-result c = omega (arith, fits c, c.well_formed)
-
-pub shape_of-space : goal.shape_of-space
-shape_of-space c = put-kept (returns c).prints (fits c)
+overflow_add-result c =
+    let lines : All LineChange c.args.trace.now.changes = subst (λ (t : Trace). All LineChange t.changes) c.trace.view_is c.trace.invariant.lines in
+    omega (arith, record-within c.requires.made.0 lines c.requires.recordable (returns c), c.well_formed)

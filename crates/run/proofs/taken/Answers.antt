@@ -1,36 +1,32 @@
 -- `run::taken` meets its contract. Assumes nothing.
-use mathlib.Core.Path.{◌≡◌, refl}
-use native.Mathlib.Omega.{arith}
-use Rattle.model.specs.State.{Kind, empty}
-use Rattle.model.specs.Bytes.{write}
-use Rattle.model.specs.Calls.{asked_number}
-use Rattle.lines.specs.Clauses.{named_by}
-use Rattle.run.specs.Recording.{kind_named}
-use Rattle.run.proofs.Whole.{made-back, made-new, took-back, took-record}
-use Rattle.run.proofs.taken.Goals.{After-make-k, Else-k-ne0}
+use mathlib.Core.Path.{◌≡◌, ap}
+use Rattle.std.proofs.lemmas.Result.{err_from_is_err_and}
+use Rattle.model.specs.Trace.{Trace}
+use Rattle.model.specs.Record.{kind_of}
+use Rattle.model.specs.Calls.{make_number, made}
+use Rattle.calls.specs.Terms.{outcome}
+use Rattle.run.proofs.Whole.{made-meant, made-new, took-back, took-record}
+use Rattle.run.proofs.taken.Goals.{After-make_with}
 use Rattle.run.proofs.taken.Goals as goal
 
--- the kind of the rack that is asked for
-abbrev asked : After-make-k → Kind
-asked c = kind_named (named_by c.args.settings)
+-- the rack of the trace's kind was made
+meant : (c : After-make_with) → let t = c.args.trace.now in
+    (outcome c.make_with.result ≡ make_number (kind_of t) c.args.rack.now t.n) × (c.make_with.new.bytes ≡ made (kind_of t) c.args.rack.now t.n)
+meant c = let x = c.trace.inside in let m = c.make_with in
+    made-meant c.args.trace.now x.n x.settings m.result c.args.rack.now m.new.bytes (ap (λ (t : Trace). t.n) c.trace.view_is)
+    (ap (λ (t : Trace). t.settings) c.trace.view_is) c.unwrap_or-settings.ensures (m.ensures.number, m.ensures.leaves)
 
--- the rack was made
-rack-made : (c : Else-k-ne0) → let n = c.args.n in
-    (asked_number (asked (goal.at.Else-k-ne0 c).After-make-k) n ≡ 0) ×
-    (c.make-k.new.rack ≡ write (empty (asked (goal.at.Else-k-ne0 c).After-make-k) n))
-rack-made c = made-new (asked (goal.at.Else-k-ne0 c).After-make-k) _ _ c.requires.rack_value
-    (c.make-k.ensures.number, c.make-k.ensures.leaves) c.if-k-ne0.false
+pub returns-in_err-make_with : goal.returns-in_err-make_with
+returns-in_err-make_with c = let d = (goal.at.returns-in_err-make_with c).After-make_with in
+    let p = err_from_is_err_and c.from_residual.result c.from_residual.ensures.1 in
+    rw (p.1, p.2)
+    (took-back c.args.trace.now c.args.rack.now c.make_with.new.bytes c.make_with.result c.told-rack (meant d) c.args.space.now c.in_err-make_with.was)
 
-pub returns-then-k-ne0 : goal.returns-then-k-ne0
-returns-then-k-ne0 c = let d = c.if-k-ne0.true in
-    let b = made-back (asked (goal.at.returns-then-k-ne0 c).After-make-k) _ _ c.requires.rack_value
-    (c.make-k.ensures.number, c.make-k.ensures.leaves) d in
-    let r = c.turned_back.ensures in
-    took-back _ _ _ _ (named_by c.args.settings) b.0 d (omega (arith, r.0)) (omega (arith, r.1)) (omega (arith, r.2)) b.1 refl
-
-pub put_record-requires : goal.put_record-requires
-put_record-requires c = record { n_value = rack-made (goal.at.put_record-requires c).Else-k-ne0; recordable = c.requires.recordable }
+pub put_record-requires-clause-made : goal.put_record-requires-clause-made
+put_record-requires-clause-made c = let d = (goal.at.put_record-requires-clause-made c).After-make_with in
+    made-new c.args.trace.now c.args.rack.now c.make_with.new.bytes c.make_with.result c.told-rack (meant d) c.in_ok-make_with.was
 
 pub returns : goal.returns
-returns c = let r = c.recorded.ensures in
-    took-record _ (rack-made (goal.at.returns c).Else-k-ne0).0 (omega (arith, r.0)) (omega (arith, r.1)) (omega (arith, r.2)) c.put_record.ensures
+returns c = let d = (goal.at.returns c).After-make_with in
+    let new = made-new c.args.trace.now c.args.rack.now c.make_with.new.bytes c.make_with.result c.told-rack (meant d) c.in_ok-make_with.was in
+    took-record c.args.trace.now c.args.rack.now new.0 c.put_record.ensures

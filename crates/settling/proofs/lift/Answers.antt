@@ -18,5 +18,5 @@ rise-requires c =
     let all = parted-rises (rising (goal.at.rise-requires c).Start) c.part.ensures in
     record { held = all.0; u_bound = all.1.0; by_index = all.1.1 }
 
-pub returns : goal.returns
-returns c = record { rack_after = parted-lifts (rising (goal.at.returns c).Start) c.part.ensures c.rise.ensures; queue_is = c.requeue-then.ensures }
+pub returns-clause-rack_after : goal.returns-clause-rack_after
+returns-clause-rack_after c = parted-lifts (rising (goal.at.returns-clause-rack_after c).Start) c.part.ensures c.rise.ensures

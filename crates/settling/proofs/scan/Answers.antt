@@ -1,5 +1,4 @@
 -- `settling::scan` meets its contract. The loop's invariant: the turns of the vertices before the place of the walk are done. Assumes nothing.
-use mathlib.Core.Path.{sym, ◌∙◌}
 use Prim.Native.Nat.{◌<◌}
 use native.Mathlib.Omega.{arith}
 use Rattle.model.specs.Shape.{low}
@@ -7,12 +6,12 @@ use Rattle.model.proofs.Shapes.{low-good}
 use Rattle.layout.specs.Walks.{Here}
 use Rattle.layout.proofs.Walks.{row-whole}
 use Rattle.layout.proofs.Reached.{reached-here, place-small, further-less}
-use Rattle.moves.proofs.Held.{held-sized, held_small}
-use Rattle.settling.proofs.Scans.{ScanFrom, scan-starts, scanning-sized, scan-visits, scan-sized, scan-again, scan-ends}
+use Rattle.moves.proofs.Held.{held_small}
+use Rattle.settling.proofs.Scans.{ScanFrom, scan-starts, scan-visits, scan-again, scan-ends}
 use Rattle.settling.proofs.scan.Goals.{In-loop-at, Start}
 use Rattle.settling.proofs.scan.Goals as goal
 
-begun : (c : Start) → ScanFrom low c.args.words.now c.args.i c.args.v c.args.rack.now c.args.queue.now c.args.tally
+begun : (c : Start) → ScanFrom low c.args.i c.args.v c.args.rack.now
 begun c = record {
   held = c.requires.held.0;
   ordered = c.requires.held.1;
@@ -24,11 +23,8 @@ begun c = record {
 v-small : (c : Start) → c.args.v < low.most
 v-small c = held_small c.requires.held.0 c.args.v c.requires.v_bound.0
 
-pub first-at-requires : goal.first-at-requires
-first-at-requires c = record { sized = held-sized c.requires.held.0; v_lt_most = v-small (goal.at.first-at-requires c).Start }
-
 pub loop-at-init : goal.loop-at-init
-loop-at-init c = scan-starts (begun (goal.at.loop-at-init c).Start) c.requires.holds_waiting.0 c.first-at.ensures
+loop-at-init c = scan-starts c.args.words.now c.args.progress.now (begun (goal.at.loop-at-init c).Start) c.requires.holds_waiting.0 c.first-at.ensures
 
 some : (c : In-loop-at) → 0 < c.loop-at.at.rest
 some c = omega (arith, c.loop-at-test.true)
@@ -36,24 +32,12 @@ some c = omega (arith, c.loop-at-test.true)
 here : (c : In-loop-at) → Here low.most c.loop-at.invariant.seen c.loop-at.invariant.from c.loop-at.at
 here c = c.loop-at.invariant.stands.here (some c)
 
-pub place-w-requires : goal.place-w-requires
-place-w-requires c = record { rest_nonzero = some c; word_bound = (here c).inside }
-
-pub visit-t-requires : goal.visit-t-requires
-visit-t-requires c =
-    let all = scan-visits (begun (goal.at.visit-t-requires c).Start) c.loop-at.invariant
-    (some (goal.at.visit-t-requires c).In-loop-at) c.place-w.ensures c.requires.v_bound.3 c.requires.holds_waiting.1
+pub visit-requires : goal.visit-requires
+visit-requires c =
+    let all = scan-visits c.args.words.now c.args.progress.now (begun (goal.at.visit-requires c).Start) c.loop-at.invariant
+    (some (goal.at.visit-requires c).In-loop-at) c.place-w.ensures c.requires.v_bound.3 c.requires.holds_waiting.1
     (omega arith) in
     record { held = all.0; w_bound = all.1.0; holds_waiting = all.1.1 }
-
-pub next-at-requires : goal.next-at-requires
-next-at-requires c = record {
-  sized = scan-sized (begun (goal.at.next-at-requires c).Start) c.loop-at.invariant
-      (some (goal.at.next-at-requires c).In-loop-at) c.place-w.ensures c.visit-t.ensures;
-  v_lt_most = v-small (goal.at.next-at-requires c).Start;
-  rest_nonzero = some (goal.at.next-at-requires c).In-loop-at;
-  word_bound = (here (goal.at.next-at-requires c).In-loop-at).inside;
-}
 
 pub loop-at-smaller : goal.loop-at-smaller
 loop-at-smaller c = omega (
@@ -64,14 +48,8 @@ loop-at-smaller c = omega (
 )
 
 pub loop-at-preserved : goal.loop-at-preserved
-loop-at-preserved c = scan-again (begun (goal.at.loop-at-preserved c).Start) c.loop-at.invariant
-    (some (goal.at.loop-at-preserved c).In-loop-at) c.place-w.ensures c.visit-t.ensures c.visit-t.auto.queue c.next-at.ensures
-
-pub shape_of-rack : goal.shape_of-rack
-shape_of-rack c = scanning-sized (begun (goal.at.shape_of-rack c).Start) c.loop-at.invariant ∙ sym (held-sized c.requires.held.0)
-
-pub shape_of-queue : goal.shape_of-queue
-shape_of-queue c = c.loop-at.invariant.long
+loop-at-preserved c = scan-again c.args.words.now c.args.progress.now (begun (goal.at.loop-at-preserved c).Start) c.loop-at.invariant
+    (some (goal.at.loop-at-preserved c).In-loop-at) c.place-w.ensures c.visit.ensures c.next-at.ensures
 
 pub returns : goal.returns
-returns c = scan-ends (begun (goal.at.returns c).Start) c.loop-at.invariant (omega (arith, c.loop-at-test.false))
+returns c = scan-ends c.args.words.now c.args.progress.now (begun (goal.at.returns c).Start) c.loop-at.invariant (omega (arith, c.loop-at-test.false))

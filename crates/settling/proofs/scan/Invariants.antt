@@ -6,7 +6,7 @@ use Rattle.settling.proofs.Scans.{Scanning}
 use Rattle.settling.proofs.scan.Given as goal
 
 abbrev pub invariant-loop-at : goal.invariant-loop-at
-invariant-loop-at l = Scanning low l.words l.i l.v l.initial.rack l.initial.queue l.initial.t l.rack l.queue l.t l.at
+invariant-loop-at l = Scanning low l.words l.i l.v l.initial.rack l.initial.progress l.rack l.progress l.at
 
 abbrev pub decreases-loop-at : goal.decreases-loop-at
 decreases-loop-at l = low.most - reached low.most l.at

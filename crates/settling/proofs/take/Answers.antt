@@ -1,19 +1,17 @@
 -- `settling::take` meets its contract. Assumes nothing.
-use mathlib.Core.Path.{◌≡◌, refl, ap, ◌∙◌}
+use mathlib.Core.Path.{◌≡◌, ap, ◌∙◌}
 use Prim.Native.Nat.{ℕ, ◌≤◌, ◌<◌, ◌^◌}
 use native.Mathlib.Omega.{arith}
 use Rattle.model.specs.Shape.{low}
 use Rattle.model.specs.Bytes.{growth_at}
-use Rattle.moves.proofs.Held.{held-range, held-room, held-sized}
-use Rattle.settling.proofs.Requeuing.{requeued-of, room_as}
+use Rattle.moves.proofs.Held.{held-range}
 use Rattle.settling.proofs.Takes.{Handed, handed-growth, handed-held, handed-waits, handed-falls, handed-draws, taken-draws, taken-falls}
 use Rattle.settling.proofs.take.Goals.{After-hand_over-k, After-threshold-bar, Else-bar-k, Then-bar-k}
 use Rattle.settling.proofs.take.Goals as goal
 
 handed : (c : After-hand_over-k) →
     let a = c.args in
-    Handed low a.rack.now a.queue.now a.tally a.i a.v c.hand_over-k.result.below c.hand_over-k.new.rack c.leave-waiting.new.queue
-    c.waits-t.result
+    Handed low a.rack.now a.progress.now a.i a.v c.hand_over-k.result.below c.hand_over-k.new.rack c.leave.new.self
 handed c =
     record {
       held = c.requires.held.0;
@@ -23,16 +21,10 @@ handed c =
       rank = c.requires.v_bound.2;
       level = c.requires.v_bound.3;
       holds = c.requires.holds_waiting.0;
-      left = requeued-of c.leave-waiting.ensures c.waits-t.ensures;
-      long = c.leave-waiting.auto.queue;
+      left = c.leave.ensures;
       bytes = c.hand_over-k.ensures.rack_after;
       size = c.hand_over-k.ensures.below_value;
     }
-
-pub leave-waiting-requires : goal.leave-waiting-requires
-leave-waiting-requires c = let h = c.requires.holds_waiting.0 in
-    let v = c.requires.v_bound in
-    record { waiting_in_bounds = h.within; distinct = (h.lists.once, h.lists.whole _ (v.0, (v.1, omega (arith, v.2)))) }
 
 -- what the test says of the vertices below
 abbrev bar : After-threshold-bar → ℕ
@@ -47,13 +39,8 @@ enough c = omega (arith, c.if-bar-k.true, bar-is (goal.at.Then-bar-k c).After-th
 few : (c : Else-bar-k) → c.hand_over-k.result.below < bar (goal.at.Else-bar-k c).After-threshold-bar
 few c = omega (arith, c.if-bar-k.false, bar-is (goal.at.Else-bar-k c).After-threshold-bar)
 
-pub threshold-bar-requires : goal.threshold-bar-requires
-threshold-bar-requires c = let h = (handed-held (handed (goal.at.threshold-bar-requires c).After-hand_over-k)).0 in
-    record {
-      sized = held-sized h;
-      in_range = held-range h;
-      j_lt_levels = omega (arith, held-room h, (handed-falls (handed (goal.at.threshold-bar-requires c).After-hand_over-k) refl).level);
-    }
+pub threshold-bar-requires-clause-in_range : goal.threshold-bar-requires-clause-in_range
+threshold-bar-requires-clause-in_range c = held-range (handed-held (handed (goal.at.threshold-bar-requires-clause-in_range c).After-hand_over-k)).0
 
 pub draw-requires : goal.draw-requires
 draw-requires c =
@@ -70,7 +57,7 @@ fall-requires c = let a = handed (goal.at.fall-requires c).After-hand_over-k in
     record {
       held = handed-held a;
       falling = handed-falls a c.threshold-bar.ensures;
-      holds_waiting_but = (handed-waits a, room_as a.left c.requires.holds_waiting.1);
+      holds_waiting_but = (handed-waits a, c.requires.holds_waiting.1);
     }
 
 pub returns : goal.returns

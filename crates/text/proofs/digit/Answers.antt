@@ -5,5 +5,4 @@ use Rattle.text.proofs.Decimals.{digit-out}
 use Rattle.text.proofs.digit.Goals as goal
 
 pub returns : goal.returns
-returns c = let w = c.wrapping_sub_u32.ensures in
-    record { is = λ h. omega (arith, w); none = λ h. digit-out c.args.b (λ l. omega (arith, w)) }
+returns c = record { is = λ h. omega (arith, c.from.ensures); none = λ h. digit-out c.args.b (λ l. omega (arith, c.from.ensures)) }

@@ -33,37 +33,33 @@ loop-k-init c = let a = c.args in
     let room = c.requires in
     let first = c.digit-first.ensures in
     let second = c.digit-second.ensures in
-    (omega arith, begun.begins-two a.s.now a.at _ _ (omega (arith, room)) first (omega arith) (omega arith) second (omega arith))
+    (begun.begins-two a.s.now a.at _ _ (omega (arith, room)) first (omega arith) (omega arith) second (omega arith))
 
 pub returns-then-d-gt9 : goal.returns-then-d-gt9
 returns-then-d-gt9 c = let a = c.args in
     let l = c.loop-k in (
       omega (arith, c.requires),
       record {
-        written = l.invariant.1.stands;
+        written = l.invariant.stands;
         ends = begun.ends_at a.s.now (a.at + l.k) _ c.digit-d.ensures c.if-d-gt9.true;
-        small = omega (arith, begun.begins-fits l.invariant.1 (omega arith));
+        small = omega (arith, begun.begins-fits l.invariant (omega arith));
       },
     )
 
 pub overflow_mul-v-in-loop-k : goal.overflow_mul-v-in-loop-k
-overflow_mul-v-in-loop-k c = omega (arith, begun.begins-short c.loop-k.invariant.1 (omega arith))
+overflow_mul-v-in-loop-k c = omega (arith, begun.begins-short c.loop-k.invariant (omega arith))
 
 pub overflow_add-v-in-loop-k : goal.overflow_add-v-in-loop-k
-overflow_add-v-in-loop-k c = omega (arith, begun.begins-short c.loop-k.invariant.1 (omega arith))
-
-pub loop-k-smaller : goal.loop-k-smaller
-loop-k-smaller c = omega arith
+overflow_add-v-in-loop-k c = omega (arith, begun.begins-short c.loop-k.invariant (omega arith))
 
 pub loop-k-preserved : goal.loop-k-preserved
 loop-k-preserved c = let a = c.args in
     let l = c.loop-k in
     let room = c.requires in
-    (omega arith, begun.begins-more a.s.now a.at l.k l.v _ l.invariant.1 (omega (arith, room)) c.digit-d.ensures (omega arith))
+    (begun.begins-more a.s.now a.at l.k l.v _ l.invariant (omega (arith, room)) c.digit-d.ensures (omega arith))
 
 pub tenth-requires : goal.tenth-requires
 tenth-requires c = let a = c.args in
     let l = c.loop-k in
-    let e : l.k ≡ 9 = omega (arith, l.invariant.0, c.loop-k-test.false) in
-    let room = c.requires in
-    record { at_in_bounds = room; begins = subst (λ (k : ℕ). Begins a.s.now a.at k l.v) e l.invariant.1 }
+    let nine : l.k ≡ 9 = omega (arith, c.loop-k-test.false) in
+    record { at_in_bounds = c.requires; begins = subst (λ (k : ℕ). Begins a.s.now a.at k l.v) nine l.invariant }

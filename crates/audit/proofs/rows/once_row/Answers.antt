@@ -1,33 +1,20 @@
--- `audit::rows::once_row` meets its contract. The loop's invariant: no second owner is found as far as word k. Assumes nothing.
+-- `audit::rows::once_row` meets its contract. Assumes nothing.
+use mathlib.Core.Path.{refl}
+use Prim.Native.Nat.{◌+◌, ◌*◌, ◌/◌}
 use native.Mathlib.Omega.{arith}
-use Rattle.layout.proofs.Said.{said, unsaid, says-yes, says-no}
+use lib.Dec.{T}
+use Rattle.std.proofs.Common.{rules, tests}
+use Rattle.model.specs.Shape.{low}
+use Rattle.model.specs.Bytes.{owns_at}
+use Rattle.layout.proofs.Said.{says-by}
+use Rattle.audit.specs.Parts.{OnceIn}
+use Rattle.audit.proofs.Each.{each-says}
+use Rattle.audit.proofs.Words.{in-words}
 use Rattle.audit.proofs.rows.once_row.Goals as goal
 
-pub loop-k-init : goal.loop-k-init
-loop-k-init c = (omega arith, λ w l o. absurd (omega arith))
-
-pub overflow_mul-k : goal.overflow_mul-k
-overflow_mul-k c = record { fits = omega (arith, c.loop-k.invariant.0, c.requires.v_lt_most) }
-
-pub once_word-requires : goal.once_word-requires
-once_word-requires c = record {
-  sized = c.requires.sized;
-  v_lt_most = c.requires.v_lt_most;
-  k_bound = omega (arith, c.loop-k-test.true, c.requires.v_lt_most);
-  once_below = c.loop-k.invariant.1;
-}
-
-pub returns-then-not-once_word : goal.returns-then-not-once_word
-returns-then-not-once_word c = says-no (λ g. unsaid c.once_word.ensures c.if-not-once_word.true (λ w l o. g w (omega (arith, c.loop-k-test.true)) o))
-
-pub loop-k-smaller : goal.loop-k-smaller
-loop-k-smaller c = omega arith
-
-pub loop-k-preserved : goal.loop-k-preserved
-loop-k-preserved c = (
-  omega (arith, c.loop-k-test.true),
-  λ w l o. said c.once_word.ensures c.if-not-once_word.false w (omega arith) o,
-)
-
 pub returns : goal.returns
-returns c = says-yes (λ w l o. c.loop-k.invariant.1 w (omega (arith, c.loop-k-test.false, c.loop-k.invariant.0)) o)
+returns c = let bs = c.args.rack.now in
+    let v = c.args.v in
+    let words = v / 64 + 1 in
+    says-by (in-words (λ w. T (owns_at low bs v w) → T (owns_at low bs w v) → ⊥) words) (λ g k i j b. g (64 * k + j) (omega arith))
+    (each-says _ _ _ words (OnceIn low bs v) c.all.ensures.ran refl (λ x b q k. search (rules, tests)))

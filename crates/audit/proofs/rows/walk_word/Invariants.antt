@@ -1,8 +1,6 @@
 -- `audit::rows::walk_word` meets its contract. The loop's invariant: the row is walked as far as some place of the word, and x holds the places
 -- from there on. Assumes nothing.
-use mathlib.Core.Path.{◌≡◌}
-use Prim.Native.Nat.{◌*◌}
-use lib.ListN.{length}
+use Prim.Native.Nat.{◌+◌, ◌*◌}
 use Rattle.model.specs.Shape.{low}
 use Rattle.model.specs.Bytes.{owns_at}
 use Rattle.audit.specs.Parts.{Walked}
@@ -10,7 +8,7 @@ use Rattle.audit.proofs.Walk.{Midway}
 use Rattle.audit.proofs.rows.walk_word.Given as goal
 
 abbrev pub invariant-loop-x : goal.invariant-loop-x
-invariant-loop-x l = (length l.tally ≡ length l.initial.tally) × Midway (owns_at low l.rack l.v) (Walked low l.rack l.tally l.v) (64 * l.k) l.x
+invariant-loop-x l = Midway (λ j. owns_at low l.rack l.v (64 * l.k + j)) (λ j. Walked low l.rack l.tally l.v (64 * l.k + j)) l.x
 
 abbrev pub decreases-loop-x : goal.decreases-loop-x
 decreases-loop-x l = l.x

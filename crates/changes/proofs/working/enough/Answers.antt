@@ -6,7 +6,7 @@ use native.Mathlib.Omega.{arith}
 use Rattle.model.specs.Shape.{low}
 use Rattle.model.specs.Bytes.{read}
 use Rattle.drawing.specs.Sure.{Sure}
-use Rattle.moves.proofs.Held.{held-sized, held-size, held-edges, held-few}
+use Rattle.moves.proofs.Held.{held-size, held-edges, held-few}
 use Rattle.changes.proofs.Trials.{sure-enough, lower-enough}
 use Rattle.changes.proofs.working.enough.Goals as goal
 
@@ -17,15 +17,9 @@ returns-then-sure c = let a = c.args in
     (inr (inr (omega arith, omega arith)))
     (subst (λ (x : Bool). Sure x a.words.now a.k) c.if-sure.true c.sure.ensures)
 
-pub size-half-requires : goal.size-half-requires
-size-half-requires c = held-sized c.requires
-
-pub edges-edges-requires : goal.edges-edges-requires
-edges-edges-requires c = held-sized c.requires
-
 pub returns : goal.returns
 returns c = let a = c.args in
     let half = c.size-half.ensures ∙ held-size c.requires in
     let links = c.edges-edges.ensures ∙ held-edges c.requires in
     lower-enough (read low a.rack.now) a.i a.k a.words.now c.sure-2.result (held-few c.requires) (omega (arith, half))
-    (omega (arith, links)) c.lower.ensures c.sure-2.ensures
+    (omega (arith, links)) c.min.ensures c.sure-2.ensures

@@ -5,31 +5,29 @@ use Rattle.model.specs.Bytes.{rules_at, read}
 use Rattle.model.specs.Moves.{promote}
 use Rattle.model.specs.Change.{start}
 use Rattle.changes.proofs.Chains.{none-waiting, Onward, promoted-next, settled_on}
-use Rattle.changes.proofs.working.promote_and_settle.Goals.{After-promote-t}
+use Rattle.changes.proofs.working.promote_and_settle.Goals.{After-promote}
 use Rattle.changes.proofs.working.promote_and_settle.Goals as goal
 
-pub promote-t-requires : goal.promote-t-requires
-promote-t-requires c = let b = c.requires.begun in
-    let m = c.requires.liftable in record {
+pub promote-requires : goal.promote-requires
+promote-requires c =
+    let b = c.requires.begun in
+    let m = c.requires.liftable in
+    record {
       held = (b.held, b.ordered);
       u_bound = (m.inside, m.low, m.level, m.some);
-      holds_waiting = (none-waiting c.places-queue.ensures c.new.ensures b, omega (arith, c.new.ensures.0));
+      holds_waiting = (none-waiting c.new-progress.ensures b, omega (arith, c.new-progress.ensures.1));
     }
 
 -- where the promotion leaves the run
-next : (c : After-promote-t) →
+next : (c : After-promote) →
     let a = c.args in
-    let p = c.promote-t in
-    Onward low (rules_at a.rack.now) a.words.now (promote a.words.now a.i a.u (start (read low a.rack.now))) p.new.rack p.new.queue p.result
-next c =
-    promoted-next c.args.words.now c.args.i c.args.u c.places-queue.result c.requires.begun c.requires.liftable c.new.ensures
-    c.promote-t.ensures
+    Onward low (rules_at a.rack.now) a.words.now (promote a.words.now a.i a.u (start (read low a.rack.now))) c.promote.new.rack c.promote.new.progress
+next c = promoted-next c.args.words.now c.args.i c.args.u c.new-progress.result c.requires.begun c.requires.liftable c.new-progress.ensures c.promote.ensures
 
 pub settle-requires : goal.settle-requires
-settle-requires c = let n = next (goal.at.settle-requires c).After-promote-t in record {
-  held = (n.held, n.ordered);
-  holds_waiting = (n.holds, n.room);
-}
+settle-requires c =
+    let n = next (goal.at.settle-requires c).After-promote in
+    record { held = (n.held, n.ordered); holds_waiting = (n.holds, n.room) }
 
 pub returns : goal.returns
-returns c = settled_on _ (next (goal.at.returns c).After-promote-t) c.settle.ensures
+returns c = settled_on _ (next (goal.at.returns c).After-promote) c.settle.ensures

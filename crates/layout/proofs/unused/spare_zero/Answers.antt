@@ -7,4 +7,4 @@ use Rattle.layout.proofs.unused.spare_zero.Goals as goal
 
 pub returns : goal.returns
 returns c = says-by (λ f k h. f k h (omega arith)) (λ f k h l. f k h)
-    (cut-says c.args.rack.now 6 0 low.spare 6 8 0 (omega arith) (omega arith) (omega arith) (omega (arith, c.requires)) c.is_zero.ensures)
+    (cut-says c.args.rack.now 6 0 low.spare 6 8 0 (omega arith) (omega arith) (omega arith) (omega (arith, c.told-rack)) c.all_are.ensures)

@@ -1,5 +1,5 @@
 -- `layout::walk::from_word` meets its contract. The loop's invariant: no word before this one has an edge. Assumes nothing.
-use Prim.Native.Nat.{◌-◌, ◌*◌}
+use Prim.Native.Nat.{◌*◌}
 use Rattle.model.specs.Shape.{low}
 use Rattle.model.specs.Bytes.{owns_at}
 use Rattle.layout.proofs.Walks.{Passed}
@@ -7,6 +7,3 @@ use Rattle.layout.proofs.walk.from_word.Given as goal
 
 abbrev pub invariant-loop-word : goal.invariant-loop-word
 invariant-loop-word l = Passed low.most (owns_at low l.rack l.v) (64 * l.k) (64 * l.word)
-
-abbrev pub decreases-loop-word : goal.decreases-loop-word
-decreases-loop-word l = low.most - 64 * l.word

@@ -9,11 +9,8 @@ use Rattle.model.specs.Shape.{low}
 use Rattle.model.specs.Bytes.{owns_at}
 use Rattle.model.proofs.Tests.{le?}
 use Rattle.bitset.proofs.Sets.{among-fact, among-test}
-use Rattle.layout.proofs.Said.{says-yes, says-no, says-by}
+use Rattle.layout.proofs.Said.{says-no, says-by}
 use Rattle.layout.proofs.words.owns_none_from.Goals as goal
-
-pub returns-then-k-ge-MOST : goal.returns-then-k-ge-MOST
-returns-then-k-ge-MOST c = says-yes (λ w l a t. omega (arith, c.if-k-ge-MOST.true))
 
 pub returns-then-x-below : goal.returns-then-x-below
 returns-then-x-below c = let a = c.args in
@@ -22,7 +19,7 @@ returns-then-x-below c = let a = c.args in
     says-no (λ none. c.if-x-below.true
     (among-test x.ensures b.ensures
     (λ j l t. elim (le? a.n (64 * (a.n / 64) + j)) [
-      | inl past ↦ absurd (none (64 * (a.n / 64) + j) (omega (arith, c.if-k-ge-MOST.false)) past t)
+      | inl past ↦ absurd (none (64 * (a.n / 64) + j) (omega (arith, c.if-k-ge-WORDS.false)) past t)
       | inr under ↦ lt→ltb (64 * (a.n / 64) + j) a.n under
     ])))
 

@@ -1,23 +1,22 @@
 -- `moves::takeover::owners` meets its contract. Assumes nothing.
-use mathlib.Core.Path.{◌≡◌, sym, ◌∙◌, subst}
+use mathlib.Core.Path.{◌≡◌, refl, sym, ap, ◌∙◌, subst}
 use mathlib.Core.Bool.{Bool, ◌&&◌}
-use Prim.Native.Nat.{ℕ, suc, ◌+◌, ◌-◌, ◌*◌, ◌^◌, ◌<◌}
+use Prim.Native.Nat.{ℕ, suc, ◌+◌, ◌-◌, ◌*◌, ◌%◌, ◌^◌, ◌<◌}
 use native.Mathlib.Nat.{pow-suc}
 use native.Mathlib.Omega.{arith}
 use lib.Dec.{T, eqb, ltb, eqb→eq, lt→ltb}
-use lib.Bits.{bit_and}
-use lib.Pow.{pow_mono}
+use lib.Pow.{pow_mono, pow-lt}
 use lib.Count.{count_trailing_zeros}
 use Rattle.model.specs.Shape.{low}
 use Rattle.model.specs.State.{State}
 use Rattle.model.specs.Bytes.{roster_at, read}
 use Rattle.model.proofs.Tests.{true-T, eqb_yes, and_intro, and_right}
-use Rattle.bitset.proofs.Words.{lowest, dropped-less}
+use Rattle.layout.specs.declared.walk.Cursor.{Cursor}
 use Rattle.moves.specs.Proper.{owner_at}
-use Rattle.moves.proofs.Held.{held-sized, held_small, held-owns, held-roster}
+use Rattle.moves.proofs.Held.{held_small, held-owns, held-roster}
 use Rattle.moves.proofs.Search.{Search, search-start, search-full, search-over, search-at, search-got, search-left, search-yes, search_no}
 use Rattle.moves.proofs.Taking.{owner_of, owner-is}
-use Rattle.moves.proofs.takeover.owners.Goals.{Start, In-loop-x, After-owns, Then-owns}
+use Rattle.moves.proofs.takeover.owners.Goals.{Start, In-Some, After-owns, Then-owns}
 use Rattle.moves.proofs.takeover.owners.Goals as goal
 
 -- where the function begins, the state that its bytes hold, and the two tests of a place
@@ -55,57 +54,52 @@ module _ (s : Start) (j : ℕ) (l : j < 64) where
       owner_of (state s) s.args.q s.args.u w o
       (eqb→eq ((state s).rank w) s.args.q (and_right (ltb w (state s).n) _ (subst T in-roster r)))
 
-pub word-x-requires : goal.word-x-requires
-word-x-requires c = record { sized = held-sized c.requires.held; r_le_levels = c.requires.u_bound.1; k_bound = c.requires.u_bound.2 }
+-- after so many turns
+abbrev over : (s : Start) → ℕ → ℕ → Cursor → Type 0
+over s left found b = (b.word ≡ s.args.k) × Search (listed s) (owner s) s.args.missing left found b.rest
 
-pub loop-x-init : goal.loop-x-init
-loop-x-init c = search-start c.word-x.ensures
+pub loop-w-init : goal.loop-w-init
+loop-w-init c =
+    subst (over (goal.at.loop-w-init c).Start c.args.missing 0) (sym (c.into_iter-w-iterator.ensures.into_iter_gives ∙ c.new-w-items.ensures))
+    (refl, search-start c.word.ensures)
 
--- a turn: something is left of the word
-some : (c : In-loop-x) → 0 < c.loop-x.x
-some c = omega (arith, c.loop-x-test.true)
+-- in a turn something is left of the word
+module _ (c : In-Some) where
+  abbrev start : Start
+  start = (goal.at.In-Some c).Start
 
-pub place-w-requires : goal.place-w-requires
-place-w-requires c = record { rest_nonzero = some c; word_bound = c.requires.u_bound.2 }
+  some : 0 < c.loop-w.w-iterator.rest
+  some = c.in-Some.ensures.steps.0
 
--- the place whose turn it is
-abbrev at : In-loop-x → ℕ
-at c = count_trailing_zeros 64 c.loop-x.x
+  -- the place whose turn it is
+  abbrev at : ℕ
+  at = count_trailing_zeros 64 c.loop-w.w-iterator.rest
 
-turn : (c : In-loop-x) → (at c < 64) × T (listed (goal.at.In-loop-x c).Start (at c))
-turn c = search-at (each (goal.at.In-loop-x c).Start) c.loop-x.invariant (some c)
+  place : c.in-Some.w ≡ 64 * c.args.k + at
+  place = omega (arith, c.in-Some.ensures.steps.1, c.loop-w.invariant.0)
 
-pub overflow_sub-rest : goal.overflow_sub-rest
-overflow_sub-rest c = omega (arith, some (goal.at.overflow_sub-rest c).In-loop-x)
+  turn : (at < 64) × T (listed start at)
+  turn = search-at (each start) c.loop-w.invariant.1 some
 
-pub owns-requires : goal.owns-requires
-owns-requires c =
-    let s = (goal.at.owns-requires c).Start in
-    let t = (goal.at.owns-requires c).In-loop-x in
-    record { sized = held-sized c.requires.held; v_lt_most = omega (arith, c.place-w.ensures, here s (at t) (turn t).0); w_lt_most = u-small s }
+  -- its bit
+  bit : 1 * 2 ^ (c.in-Some.w % 64) % 18446744073709551616 ≡ 2 ^ at
+  bit =
+      let e : 1 * 2 ^ (c.in-Some.w % 64) ≡ 2 ^ at = ap (λ (j : ℕ). 1 * 2 ^ j) {y = at} (omega (arith, place, turn.0)) ∙ omega arith in
+      omega (arith, e, pow-lt {i = at} {j = 64} turn.0)
 
 -- what is read is whether the vertex there is an owner
 asked : (c : After-owns) →
-    c.owns.result ≡ (state (goal.at.After-owns c).Start).owns (64 * c.args.k + at (goal.at.After-owns c).In-loop-x) c.args.u
+    c.owns.result ≡ (state (goal.at.After-owns c).Start).owns (64 * c.args.k + at (goal.at.After-owns c).In-Some) c.args.u
 asked c =
-    let t = (goal.at.After-owns c).In-loop-x in
+    let t = (goal.at.After-owns c).In-Some in
     let s = (goal.at.After-owns c).Start in
-    subst (λ (w : ℕ). c.owns.result ≡ (state s).owns w s.args.u) c.place-w.ensures
-    (c.owns.ensures ∙ held-owns c.requires.held c.place-w.result s.args.u
-    (omega (arith, c.place-w.ensures, here s (at t) (turn t).0)) (u-small s))
-
--- the lowest bit of what is left, and what is left without it
-low_bit : (c : In-loop-x) →
-    let x = c.loop-x.x in
-    (x - bit_and x (x - 1) ≡ 2 ^ at c) × (bit_and x (x - 1) < x)
-low_bit c =
-    let l = c.loop-x in
-    (lowest l.x l.invariant.rest.fits (some c), dropped-less l.x l.invariant.rest.fits (some c))
+    subst (λ (w : ℕ). c.owns.result ≡ (state s).owns w s.args.u) (place t)
+    (c.owns.ensures ∙ held-owns c.requires.held c.in-Some.w s.args.u (omega (arith, place t, here s (at t) (turn t).0)) (u-small s))
 
 -- it is an owner: one that was looked for
 module _ (c : Then-owns) where
-  abbrev inside : In-loop-x
-  inside = (goal.at.Then-owns c).In-loop-x
+  abbrev inside : In-Some
+  inside = (goal.at.Then-owns c).In-Some
 
   abbrev begun : Start
   begun = (goal.at.Then-owns c).Start
@@ -113,51 +107,44 @@ module _ (c : Then-owns) where
   yes : T (owner begun (at inside))
   yes = among-owners begun (at inside) (turn inside).0 (turn inside).1 (true-T (sym (asked (goal.at.Then-owns c).After-owns) ∙ c.if-owns.true))
 
-  one_left : 0 < c.loop-x.left
-  one_left = search-left (each begun) c.loop-x.invariant (some inside) c.requires.missing_nonzero.1 yes
+  one_left : 0 < c.loop-w.left
+  one_left = search-left (each begun) c.loop-w.invariant.1 (some inside) c.requires.missing_nonzero.1 yes
 
   -- after it
-  found : Search (listed begun) (owner begun) c.args.missing (c.loop-x.left - 1)
-      (c.loop-x.found + (c.loop-x.x - bit_and c.loop-x.x (c.loop-x.x - 1)))
-      (bit_and c.loop-x.x (c.loop-x.x - 1))
+  found : over begun (c.loop-w.left - 1) (c.loop-w.found + 1 * 2 ^ (c.in-Some.w % 64) % 18446744073709551616) c.next.new.self
   found =
-      search-yes (each begun) c.loop-x.invariant (some inside) yes (omega (arith, one_left)) (omega (arith, (low_bit inside).0))
-
-pub overflow_sub-found : goal.overflow_sub-found
-overflow_sub-found c = omega (arith, (low_bit (goal.at.overflow_sub-found c).In-loop-x).1)
+      subst (over begun (c.loop-w.left - 1) (c.loop-w.found + 1 * 2 ^ (c.in-Some.w % 64) % 18446744073709551616)) (sym c.in-Some.ensures.steps.2)
+      (c.loop-w.invariant.0, search-yes (each begun) c.loop-w.invariant.1 (some inside) yes (omega (arith, one_left)) (omega (arith, bit inside)))
 
 -- what is found fits a word
 pub overflow_add-found : goal.overflow_add-found
 overflow_add-found c =
-    let t = (goal.at.overflow_add-found c).In-loop-x in
+    let t = (goal.at.overflow_add-found c).In-Some in
     let k = at t in
-    let g = search-got (each (goal.at.overflow_add-found c).Start) c.loop-x.invariant (some t) in
-    record { fits = omega (arith, (low_bit t).0, g.fits, pow-suc 2 k, pow_mono {i = suc k} {j = 64} (turn t).0) }
+    let g = search-got (each (goal.at.overflow_add-found c).Start) c.loop-w.invariant.1 (some t) in
+    record { fits = omega (arith, bit t, g.fits, pow-suc 2 k, pow_mono {i = suc k} {j = 64} (turn t).0) }
 
 pub overflow_sub-left : goal.overflow_sub-left
-overflow_sub-left c = omega (arith, one_left c)
+overflow_sub-left c = omega (arith, one_left (goal.at.overflow_sub-left c).Then-owns)
 
 pub returns-then-left-eq0 : goal.returns-then-left-eq0
 returns-then-left-eq0 c =
     let b = (goal.at.returns-then-left-eq0 c).Then-owns in
-    search-full (each (goal.at.returns-then-left-eq0 c).Start) (found b) c.requires.missing_nonzero.1 (omega (arith, c.if-left-eq0.true))
+    search-full (each (goal.at.returns-then-left-eq0 c).Start) (found b).1 c.requires.missing_nonzero.1 (omega (arith, c.if-left-eq0.true))
 
-pub loop-x-smaller-else-left-eq0 : goal.loop-x-smaller-else-left-eq0
-loop-x-smaller-else-left-eq0 c = (low_bit (goal.at.loop-x-smaller-else-left-eq0 c).In-loop-x).1
+pub loop-w-preserved-else-left-eq0 : goal.loop-w-preserved-else-left-eq0
+loop-w-preserved-else-left-eq0 c = found (goal.at.loop-w-preserved-else-left-eq0 c).Then-owns
 
-pub loop-x-preserved-else-left-eq0 : goal.loop-x-preserved-else-left-eq0
-loop-x-preserved-else-left-eq0 c = found (goal.at.loop-x-preserved-else-left-eq0 c).Then-owns
-
-pub loop-x-smaller : goal.loop-x-smaller
-loop-x-smaller c = (low_bit (goal.at.loop-x-smaller c).In-loop-x).1
-
-pub loop-x-preserved : goal.loop-x-preserved
-loop-x-preserved c =
-    let t = (goal.at.loop-x-preserved c).In-loop-x in
-    let s = (goal.at.loop-x-preserved c).Start in
-    search_no (each s) c.loop-x.invariant (some t)
-    (λ y. subst T (sym (asked (goal.at.loop-x-preserved c).After-owns) ∙ c.if-owns.false)
-    (owner-is (state s) s.args.q s.args.u (64 * s.args.k + at t) y).0)
+pub loop-w-preserved : goal.loop-w-preserved
+loop-w-preserved c =
+    let t = (goal.at.loop-w-preserved c).In-Some in
+    let s = (goal.at.loop-w-preserved c).Start in
+    subst (over s c.loop-w.left c.loop-w.found) (sym c.in-Some.ensures.steps.2) (
+      c.loop-w.invariant.0,
+      search_no (each s) c.loop-w.invariant.1 (some t)
+          (λ y. subst T (sym (asked (goal.at.loop-w-preserved c).After-owns) ∙ c.if-owns.false)
+          (owner-is (state s) s.args.q s.args.u (64 * s.args.k + at t) y).0),
+    )
 
 pub returns : goal.returns
-returns c = search-over (each (goal.at.returns c).Start) c.loop-x.invariant (omega (arith, c.loop-x-test.false))
+returns c = search-over (each (goal.at.returns c).Start) c.loop-w.invariant.1 c.in-None.ensures.steps.0

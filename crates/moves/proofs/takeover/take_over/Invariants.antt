@@ -1,13 +1,9 @@
 -- `moves::takeover::take_over` meets its contract. The loop's invariant: u has taken what the vertices of a rank below q owed it, and as many edges as
 -- are missing are still owed. Assumes nothing.
-use Prim.Native.Nat.{suc, ◌-◌}
 use Rattle.model.specs.Shape.{low}
 use Rattle.model.specs.Bytes.{read}
 use Rattle.moves.proofs.Owed.{TakeOver}
 use Rattle.moves.proofs.takeover.take_over.Given as goal
 
-abbrev pub invariant-loop-missing : goal.invariant-loop-missing
-invariant-loop-missing l = TakeOver (read low l.initial.rack) l.i l.u l.rack l.missing l.q
-
-abbrev pub decreases-loop-missing : goal.decreases-loop-missing
-decreases-loop-missing l = suc l.i - l.q
+abbrev pub invariant-loop-q : goal.invariant-loop-q
+invariant-loop-q l = TakeOver (read low l.initial.rack) l.i l.u l.rack l.missing l.q

@@ -1,17 +1,16 @@
 -- `moves::takeover::take_rank` meets its contract. The loop's invariant: u has taken its edges from the owners in the words before word k, and an edge
 -- is missing. Assumes nothing.
-use mathlib.Core.Path.{◌≡◌, sym, ap, ◌∙◌}
-use Prim.Native.Nat.{◌+◌, ◌*◌, ◌≤◌}
+use mathlib.Core.Path.{◌≡◌, ap}
+use Prim.Native.Nat.{◌+◌}
 use native.Mathlib.Omega.{arith}
 use Rattle.model.specs.Shape.{low}
 use Rattle.model.specs.State.{State}
 use Rattle.model.specs.Bytes.{kind_at, read}
 use Rattle.model.specs.Change.{reown}
 use Rattle.moves.specs.Proper.{Held, owner_at, took_from}
-use Rattle.moves.proofs.Held.{held-sized}
 use Rattle.moves.proofs.Taking.{Takes, takes-rank}
 use Rattle.moves.proofs.TakeRank.{TakeRank, rank-start, rank-read, rank-held, rank-few, rank-next, rank-full, rank-end}
-use Rattle.moves.proofs.takeover.take_rank.Goals.{After-slice_known-in-loop-k-1, At-loop-k, Start}
+use Rattle.moves.proofs.takeover.take_rank.Goals.{After-take_word-left, At-loop-k, Start}
 use Rattle.moves.proofs.takeover.take_rank.Goals as goal
 
 abbrev state : Start → State
@@ -22,14 +21,6 @@ takes s = takes-rank s.requires.held.proper s.args.q s.args.u s.requires.u_bound
 
 pub loop-k-init : goal.loop-k-init
 loop-k-init c = (c.requires.missing_nonzero.0, rank-start c.args.q (takes (goal.at.loop-k-init c).Start) c.requires.held.written)
-
--- the words of a row are few
-few : (c : At-loop-k) → 64 * c.loop-k.k ≤ low.most
-unfolding read
-few c = c.loop-k.invariant.1.within
-
-pub overflow_mul-k : goal.overflow_mul-k
-overflow_mul-k c = omega (arith, few c)
 
 held : (c : At-loop-k) → Held low c.loop-k.rack
 held c = rank-held c.args.q (takes (goal.at.At-loop-k c).Start) c.loop-k.invariant.1
@@ -48,34 +39,21 @@ take_word-left-requires c = let a = c.args in
       );
     }
 
-taken : (c : After-slice_known-in-loop-k-1) →
-    TakeRank (state (goal.at.After-slice_known-in-loop-k-1 c).Start) c.args.q c.args.u c.args.missing c.take_word-left.new.rack c.take_word-left.result (c.loop-k.k + 1)
+taken : (c : After-take_word-left) →
+    TakeRank (state (goal.at.After-take_word-left c).Start) c.args.q c.args.u c.args.missing c.take_word-left.new.rack c.take_word-left.result (c.loop-k.k + 1)
 unfolding read
 taken c =
-    rank-next c.args.q (takes (goal.at.After-slice_known-in-loop-k-1 c).Start) c.loop-k.invariant.1
+    rank-next c.args.q (takes (goal.at.After-take_word-left c).Start) c.loop-k.invariant.1
     (omega (arith, c.loop-k-test.true)) c.take_word-left.ensures.rack_after
     c.take_word-left.ensures.j_value
 
-pub shape_of-rack-then-left-eq0 : goal.shape_of-rack-then-left-eq0
-shape_of-rack-then-left-eq0 c = c.take_word-left.auto.rack ∙ held-sized (held (goal.at.shape_of-rack-then-left-eq0 c).At-loop-k) ∙ sym
-    (held-sized c.requires.held)
-
 pub returns-then-left-eq0 : goal.returns-then-left-eq0
 returns-then-left-eq0 c = let e = rank-full c.args.q (takes (goal.at.returns-then-left-eq0 c).Start)
-    (taken (goal.at.returns-then-left-eq0 c).After-slice_known-in-loop-k-1) c.requires.missing_nonzero.1 (omega (arith, c.if-left-eq0.true)) in
+    (taken (goal.at.returns-then-left-eq0 c).After-take_word-left) c.requires.missing_nonzero.1 (omega (arith, c.if-left-eq0.true)) in
     record { rack_after = e.0; rack_value = omega (arith, e.1, c.if-left-eq0.true) }
 
-pub overflow_add-k : goal.overflow_add-k
-overflow_add-k c = omega (arith, few (goal.at.overflow_add-k c).At-loop-k)
-
-pub loop-k-smaller : goal.loop-k-smaller
-loop-k-smaller c = omega (arith, c.loop-k-test.true)
-
 pub loop-k-preserved : goal.loop-k-preserved
-loop-k-preserved c = (omega (arith, c.if-left-eq0.false), taken (goal.at.loop-k-preserved c).After-slice_known-in-loop-k-1)
-
-pub shape_of-rack : goal.shape_of-rack
-shape_of-rack c = held-sized (held (goal.at.shape_of-rack c).At-loop-k) ∙ sym (held-sized c.requires.held)
+loop-k-preserved c = (omega (arith, c.if-left-eq0.false), taken (goal.at.loop-k-preserved c).After-take_word-left)
 
 pub returns : goal.returns
 unfolding read

@@ -20,7 +20,7 @@ pub loop-done-preserved : goal.loop-done-preserved
 loop-done-preserved g c =
     let done = c.loop-done.done in
     let before = c.loop-done.invariant in
-    let fits : c.in-Read.got ≤ length c.read_some-told.new.part = omega (arith, c.read_some-told.auto.part, c.in-Read.ensures.within) in
-    let part = c.read_some-told.new.part in
-    let joined = take-put_mid done (length c.loop-done.text - done) c.in-Read.got c.loop-done.text part before.1 fits in
-    (search rules, search rules, subst (Consumes _ _) (sym joined) (Consumes-trans _ _ _ _ _ before.2 c.in-Read.ensures.came.0))
+    let fits : c.in_ok-got.got ≤ length c.read_some.new.part = omega (arith, c.read_some.auto.part, c.in_ok-got.ensures.within) in
+    let part = c.read_some.new.part in
+    let joined = take-put_mid done (length c.loop-done.text - done) c.in_ok-got.got c.loop-done.text part before.1 fits in
+    (search rules, search rules, subst (Consumes _ _) (sym joined) (Consumes-trans _ _ _ _ _ before.2 c.in_ok-got.ensures.came.0))

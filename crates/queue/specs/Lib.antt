@@ -1,2 +1,0 @@
--- The definitions that the contracts of `queue` cite.
-pub mod Places
