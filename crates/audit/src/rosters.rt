@@ -6,7 +6,7 @@ ghost use Rattle.bitset.specs.Words.{Rest};
 ghost use Rattle.audit.specs.Parts.{listed_in, RankedIn, AllRankedIn, RostersIn, Rosters};
 
 use crate::bits;
-use layout::shape::{LEVELS, MOST, Rack};
+use layout::shape::{LEVELS, Rack};
 
 // Whether those in word k of the roster of rank r have that rank.
 fn ranked_word(rack: &Rack, r: usize, k: usize) -> bool
@@ -57,5 +57,5 @@ fn right_word(rack: &Rack, n: usize, k: usize) -> bool
 pub fn all(rack: &Rack, n: usize) -> bool
     ensures { Says result (Rosters low rack.now n) }
 {
-    (0..MOST / 64).all(|k| right_word(rack, n, k))
+    (0..layout::shape::WORDS).all(|k| right_word(rack, n, k))
 }

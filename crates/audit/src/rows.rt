@@ -9,7 +9,7 @@ ghost use Rattle.audit.specs.Parts.{Right, RightBelow, Walked, OnceBelow, OnceIn
 use crate::bits;
 use layout::shape::{LEVELS, MOST, Rack};
 
-// For each vertex, a count for each rank but the highest.
+// For each vertex, a count for each rank but the highest: one after the other, as the counts stand in a rack.
 pub type Tally = [u16; LEVELS * MOST];
 
 // Whether the edge v-w, which v of rank r owns, is owned rightly.
@@ -49,7 +49,7 @@ fn walk_word(rack: &Rack, tally: &mut Tally, v: usize, r: usize, k: usize) -> bo
 {
     let mut x = layout::words::word(rack, v, k);
     while x != 0 {
-        let w = 64 * k + u64::trailing_zeros(x) as usize;
+        let w = layout::walk::place(k, x);
         if !right(rack, v, r, w) {
             return false;
         }
@@ -68,7 +68,7 @@ fn walk_row(rack: &Rack, tally: &mut Tally, v: usize, r: usize) -> bool
     ensures says { Says result (RightBelow low rack.now v low.most) }
     ensures holds_2 { T result → Holds low tally.new (tallied low rack.now (v + 1)) }
 {
-    for k in 0..MOST / 64 {
+    for k in 0..layout::shape::WORDS {
         if !walk_word(rack, tally, v, r, k) {
             return false;
         }
@@ -91,7 +91,7 @@ fn once_row(rack: &Rack, v: usize) -> bool
     requires v_lt_most { v < low.most }
     ensures { Says result (OnceBelow low rack.now v (word_end v)) }
 {
-    (0..v / 64 + 1).all(|k| once_word(rack, v, k))
+    (0..v / layout::shape::WORD + 1).all(|k| once_word(rack, v, k))
 }
 
 // Whether row v of a rack of n vertices is right, with the rows before it in the tally.

@@ -27,7 +27,8 @@ pub fn pairs(rack: &Rack) -> u32
     ((layout::size(rack) - layout::rosters::size(rack, 0)) / 2) as u32
 }
 
-// "8. A board named is n or more." and "9. The two boards named are the same."
+// "8. A board named is n or more." and "9. The two boards named are the same." A query of two boards tests the first before it has a second, so that its
+// test of these is another.
 fn check_ends(n: usize, a: u32, b: u32) -> Result<(), Refusal>
     ensures { outcome result ≡ ends_number n a b }
 {
@@ -130,7 +131,7 @@ fn accepted(rack: &mut Rack, kind: Kind, a: usize, b: usize, words: &[u32]) -> T
     }
 }
 
-// One change of a sound rack, without the audit: what was done, or the first of 7 to 12 that fits.
+// One change of a sound rack, without the audit: what was done, or the first of 7 to 12 that fits. Any code is taken, as C gives it: it promises 7 of others.
 pub fn change(rack: &mut Rack, code: u32, a: u32, b: u32, words: &[u32]) -> Result<Figures, Refusal>
     requires { Sounded low rack.old }
     ensures answers { told result ≡ (change_of (rules_at rack.old) (read low rack.old) (brought code a b words.now)).answer }

@@ -18,7 +18,7 @@ pub struct Rise {
     pub riser: usize,
 }
 
-// One edge more, or one less, that counts from level j on: for both its ends a and b, and in the number of edges.
+// One edge more, or one less, that counts from level j on: for both its ends a and b, and in the number of edges. A flag tells which, as in `moves`.
 fn count_edge(rack: &mut Rack, a: usize, b: usize, j: usize, more: bool)
     requires countable { Countable low more rack.old a b j }
     ensures { rack.new ≡ edge_counted low more rack.old a b j }

@@ -14,11 +14,11 @@ use Rattle.model.proofs.Shapes.{low-good}
 use Rattle.theory.specs.Rosters.{Rosters}
 use Rattle.theory.proofs.ListTheorem.{demand-three}
 use Rattle.theory.proofs.Rosters.{rosters-of}
-use Rattle.engine.specs.Answers.{ChangeIs}
+use Rattle.engine.specs.Answers.{ChangeGives}
 use Rattle.engine.specs.Series.{CallMade, Series, asked, tellings, left, gave, Right, SeriesDemand}
 
 -- a call that meets the contract gave what the definition gives
-gave-is : (S : Shape) (bs : List ℕ) (d : CallMade) → ChangeIs S bs d.change d.answer d.after → change_bytes S bs d.change ≡ gave S bs d
+gave-is : (S : Shape) (bs : List ℕ) (d : CallMade) → ChangeGives S bs d.change d.answer d.after → change_bytes S bs d.change ≡ gave S bs d
 unfolding gave
 gave-is S bs d h = λ i. record { answer = sym h.answers i; rack = sym h.leaves i; news = (change_bytes S bs d.change).news }
 

@@ -2,7 +2,7 @@
 use Rattle.std.specs.Prelude.{◌≡◌, ◌≢◌, Bool, true, false, List, ℕ, ℤ, pos, ltb, eqb, length, ◌≤◌, Option, None, Some, Result, Ok, Err}
 use Rattle.std.specs.Borrow.{Bor}
 use Rattle.model.specs.Shape.{Shape, rack_length}
-use Rattle.model.specs.Change.{Change}
+use Rattle.model.specs.Change.{Change, Answer}
 use Rattle.model.specs.Calls.{rack_number, one_number, at_level, change_bytes, AuditAnswer, LevelAnswer, QueryAnswer}
 use Rattle.calls.specs.declared.Refusal.{Refusal}
 use Rattle.calls.specs.declared.Refusal.TheVariants.{RackLength}
@@ -38,10 +38,14 @@ abbrev pub Ranks : ℕ → ℤ → Option ℕ → Type 0
 Ranks highest level None = (x : ℕ) → x ≤ highest → at_level level x ≡ false
 Ranks highest level (Some r) = (r ≤ highest) × ((x : ℕ) → at_level level x ≡ eqb x r)
 
--- what a change with c on the bytes bs answers, and the bytes that it leaves
-pub record ChangeIs (S : Shape) (bs : List ℕ) (c : Change) (r : Result Figures Refusal) (after : List ℕ) : Type 0 where
-  pub answers : told r ≡ (change_bytes S bs c).answer
+-- what a change with c on the bytes bs answers, in the definitions' words, and the bytes that it leaves
+pub record ChangeGives (S : Shape) (bs : List ℕ) (c : Change) (x : Answer) (after : List ℕ) : Type 0 where
+  pub answers : x ≡ (change_bytes S bs c).answer
   pub leaves : after ≡ (change_bytes S bs c).rack
+
+-- the same of what the code answers
+abbrev pub ChangeIs : Shape → List ℕ → Change → Result Figures Refusal → List ℕ → Type 0
+ChangeIs S bs c r after = ChangeGives S bs c (told r) after
 
 -- what the audit answers, and then a query of the level, and one of a number
 abbrev pub audited : Result Bool Refusal → AuditAnswer

@@ -1,26 +1,23 @@
 -- A series of changes, each call on the bytes that the one before it left, and what demand 3 says of it: of the answers and bytes that the
 -- calls gave, by the contract of `engine::change` alone. Assumes nothing.
-use Rattle.std.specs.Prelude.{List, [], ◌∷◌, ℕ, Result}
+use Rattle.std.specs.Prelude.{List, [], ◌∷◌, ℕ}
 use Rattle.model.specs.Shape.{Shape}
-use Rattle.model.specs.Change.{Change}
+use Rattle.model.specs.Change.{Change, Answer}
 use Rattle.model.specs.Calls.{ChangedBytes, change_bytes}
 use Rattle.model.specs.Ledger.{Ledger, Told, entered, entered_all}
 use Rattle.theory.specs.Demand.{told_of, Call, Facts}
-use Rattle.calls.specs.declared.Refusal.{Refusal}
-use Rattle.calls.specs.declared.Figures.{Figures}
-use Rattle.calls.specs.Terms.{told}
-use Rattle.engine.specs.Answers.{ChangeIs}
+use Rattle.engine.specs.Answers.{ChangeGives}
 
 -- one call: what was asked, what it answered, and the rack's bytes after it
 pub record CallMade : Type 0 where
   pub change : Change
-  pub answer : Result Figures Refusal
+  pub answer : Answer
   pub after : List ℕ
 
 -- each call meets the contract of `engine::change`
 unfoldable pub Series : Shape → List ℕ → List CallMade → Type 0
 Series S bs [] = Unit
-Series S bs (d ∷ ds) = ChangeIs S bs d.change d.answer d.after × Series S d.after ds
+Series S bs (d ∷ ds) = ChangeGives S bs d.change d.answer d.after × Series S d.after ds
 
 -- the changes that were asked for
 unfoldable pub asked : List CallMade → List Change
@@ -40,7 +37,7 @@ left bs (d ∷ ds) = left d.after ds
 -- what a call gave; its new pairs are the definition's
 unfoldable pub gave : Shape → List ℕ → CallMade → ChangedBytes
 gave S bs d = record {
-  answer = told d.answer;
+  answer = d.answer;
   rack = d.after;
   news = (change_bytes S bs d.change).news;
 }

@@ -91,8 +91,7 @@ pub fn change(
 pub fn audit(bytes: &[u8]) -> Result<bool, Refusal>
     ensures { AuditIs result (audit_of low bytes.now) }
 {
-    let rack = sized(bytes)?;
-    Ok(audit::sound(rack))
+    Ok(audit::sound(sized(bytes)?))
 }
 
 // 1, 6 or 8 for a query that names one board; otherwise the rack.

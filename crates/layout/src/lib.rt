@@ -98,7 +98,7 @@ pub fn mate(rack: &Rack, v: usize) -> Option<u16>
     if entry == NO_MATE { None } else { Some(entry) }
 }
 
-// The entry for the mate of vertex v, 65,535 if it is free.
+// The entry for the mate of vertex v, 65,535 if it is free: as it stands in the bytes, for the call that answers this number.
 #[tactic(auto, unfolding(model::specs::Bytes::mate_at))]
 pub fn mate_entry(rack: &Rack, v: usize) -> u16
     requires v_lt_most { v < low.most }

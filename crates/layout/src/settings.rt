@@ -1,4 +1,6 @@
-// The settings of a rack, growth and top level, which no change alters, and what follows from them: the thresholds.
+// The settings of a rack, growth and top level, which no change alters, and what follows from them: the thresholds. They are passed as two numbers, of four
+// bytes as they are asked for and of one as they stand in the rack: a struct of each width would be taken apart at once. That they are in range is asked
+// where a table is read by them, and is a test of the audit, so that no type can say it of a rack.
 ghost use Rattle.std.specs.Prelude.{◌≡◌, ℕ, ◌<◌, ◌^◌, leb, length, get_or, set};
 ghost use Rattle.model.specs.Shape.{low};
 ghost use Rattle.model.specs.Counting.{bit};

@@ -42,6 +42,8 @@ pub const RACK_BYTES: usize = ROSTERS + (LEVELS + 1) * ROW;
 // The bytes of a rack, as many as it has.
 pub type Rack = [u8; RACK_BYTES];
 
+// Where the entries of a vertex stand, and a roster. Each part has its own place and width: one function of all five would be given what these keep here.
+
 // Where the rank of vertex v stands.
 pub fn rank_at(v: usize) -> usize
     requires { v < low.most }

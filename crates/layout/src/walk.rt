@@ -8,7 +8,8 @@ ghost use Rattle.layout.specs.Walks.{place_of, Taken, Stands, Further};
 
 use crate::shape::{Rack, WORD, WORDS};
 
-// Where a walk stands: at a word of the row, with so much of it left. At the end of the row nothing is left. As an iterator it gives the places that
+// Where a walk stands: at a word of the row, with so much of it left. At the end of the row nothing is left, so that what is left tells
+// by itself whether there is a place more. As an iterator it gives the places that
 // are left of its word, in their order.
 #[derive(Clone, Copy)]
 pub struct Cursor {

@@ -1,5 +1,5 @@
-// The lines of a trace. Each reader takes any position of the text, and answers the value whose printed form stands there with the
-// position after it, or that none stands there.
+// The lines of a trace. Each reader is a thin function of the text and a position, which `reader` holds as one. It takes
+// any position, and answers the value whose printed form stands there with the position after it, or that none stands there.
 #![tactic(auto)]
 
 ghost use Rattle.std.specs.Prelude.{◌+◌, ◌≤◌, length};

@@ -114,8 +114,8 @@ pub fn step_counts(rack: &mut Rack, w: usize, j: usize, k: usize, more: bool)
     }
 }
 
-// The counts of the vertices to which u owns an edge lose u, which leaves its level for level i. Here and in `raise_counts` the walk along the row is no
-// iterator, which would keep the rack lent while the counts in it change.
+// The counts of the vertices to which u owns an edge lose u, which leaves its level for level i. Here and in `raise_counts` the walk reads the next
+// word of the row as it comes to it, so that an iterator along the row would keep the rack lent while the counts in it change.
 fn lower_counts(rack: &mut Rack, u: usize, i: usize)
     requires held { Held low rack.old }
     requires u_bound { (u < (read low rack.old).n) × ((read low rack.old).rank u ≤ i) × (i ≤ top_at rack.old) }
@@ -127,11 +127,8 @@ fn lower_counts(rack: &mut Rack, u: usize, i: usize)
     while at.rest != 0 {
         let w = layout::walk::place(at.word, at.rest);
         let r = layout::rank(rack, w) as usize;
-        if r < from {
-            step_counts(rack, w, from, i + 1 - from, false);
-        } else {
-            step_counts(rack, w, r, i + 1 - r, false);
-        }
+        let j = from.max(r);
+        step_counts(rack, w, j, i + 1 - j, false);
         at = layout::walk::next(rack, u, at);
     }
 }

@@ -1,4 +1,4 @@
-// Vertices that wait, in the order of their arrival.
+// Vertices that wait, in the order of their arrival, in places of their own: there is no heap.
 #![tactic(auto)]
 
 ghost use Rattle.std.specs.Prelude.{◌≡◌, ℕ, ◌<◌, ◌≤◌, eqb, List, [], ◌∷◌, ◌++◌, length, take};

@@ -19,8 +19,6 @@ mod pen;
 use calls::{Figures, Refusal, Settings};
 use pen::Pen;
 
-// The fixed texts stand where they are written, so that each writer is compiled in with the text's length known.
-
 // Writes line 1, which the record repeats from the trace, in the form that it has there: long with settings, else short.
 pub fn put_rack(out: &mut [u8], n: u32, settings: Option<Settings>) -> usize
     requires { short_room + settings_room settings ≤ length out.old }
@@ -137,10 +135,17 @@ pub fn put_bad(out: &mut [u8], why: Refusal) -> usize
     requires line_fits { line_of why ≤ largest }
     ensures { Put (bad_line (number_of why) (line_of why)) out.old out.new result }
 {
-    let line = why.line() as u32;
+    put_bad_line(out, u32::from(why), why.line() as u32)
+}
+
+// The same of any number and line.
+pub fn put_bad_line(out: &mut [u8], number: u32, line: u32) -> usize
+    requires { bad_room ≤ length out.old }
+    ensures { Put (bad_line number line) out.old out.new result }
+{
     let mut pen = Pen { out, at: 0 };
     pen.literal(b"(bad ");
-    pen.number(u32::from(why));
+    pen.number(number);
     pen.literal(b" ");
     pen.number(line);
     pen.literal(b")\n");

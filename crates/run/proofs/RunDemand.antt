@@ -225,6 +225,6 @@ of-ran {space = space} (ran {t} z s w h g) e =
 
 -- Whatever bytes `run::run` was lent: if it answers 0, the text is blank, and the rack stays and the record says no pair; or the text holds a
 -- trace, and the record that it tells of, and the rack, are as demand 3 says of that trace.
-pub demand-three-of-run : {rack text space last new : List ℕ} (r : Result ℕ Refusal) → Ran rack text space (told r) last new → (told r).number ≡ 0
-    → RunDemanded rack text last (take (told r).length new)
-demand-three-of-run r h e = of-ran h e
+pub demand-three-of-run : {rack text space last new : List ℕ} (a : AnswerOf) → Ran rack text space a last new → a.number ≡ 0
+    → RunDemanded rack text last (take a.length new)
+demand-three-of-run a h e = of-ran h e

@@ -87,6 +87,7 @@ fn put_change(rack: &mut Rack, line: Line, words: &[u32], out: &mut [u8]) -> usi
     ensures leaves { rack.new ≡ write (change_of (rules_at rack.old) (read low rack.old) (brought (code_of line.kind) line.a line.b words.now)).state }
     ensures prints { Put (answer_line (change_of (rules_at rack.old) (read low rack.old) (brought (code_of line.kind) line.a line.b words.now)).answer) out.old out.new result }
 {
+    // A change takes any code, and tells 7 of one that is no kind's.
     let code = u32::from(line.kind);
     let answer = changes::change(rack, code, line.a, line.b, words);
     record::put_answer(out, answer)

@@ -1,4 +1,6 @@
-// Runs of moves on the rack's bytes: a draw, a promotion, the scan after a fall, a taking, and the settling.
+// Runs of moves on the rack's bytes: a draw, a promotion, the scan after a fall, a taking, and the settling. The rack and the words are lent by the caller,
+// and are no part of what a change has come to. That the bytes are `Held`, with owners in order and with those who wait in the queue, stands in each contract:
+// it is of the rack and the queue together, and a draw or a fall begins where one of them is out of the queue already.
 #![tactic(auto)]
 
 ghost use Rattle.std.specs.Prelude.{◌≡◌, suc, ◌^◌, ◌<◌, ◌≤◌, length};
@@ -53,7 +55,7 @@ fn lift(rack: &mut Rack, queue: &mut Waiting, v: usize, i: usize)
 }
 
 // "Draw at u, level i", once u's row holds exactly its neighbours below i, k of them: trailing zeros lead to the place that the word gives. It is compiled
-// into each place that calls it: apart, the takings of a dense rack take up to a tenth more instructions.
+// into each place that calls it, which saves about a hundredth of a change beside its audit.
 #[inline(always)]
 fn draw(rack: &mut Rack, progress: &mut Progress, words: &[u32], u: usize, i: usize, k: usize)
     requires held { (Held low rack.old) × (Ordered (read low rack.old)) }
@@ -99,8 +101,8 @@ fn visit(rack: &mut Rack, progress: &mut Progress, words: &[u32], w: usize, i: u
 }
 
 // "Then the boards to which v owned links just after the fall are gone through by rising number": the row is walked a word at a time while
-// it changes, since a vertex that has left it meanwhile stands at level i and is passed over. The walk counts no index, and each step sees the row
-// as the last visit left it, so that no iterator can hold it.
+// it changes, since a vertex that has left it meanwhile stands at level i and is passed over. The walk counts no index, and reads the row's next
+// word as the last visit left it, so that an iterator along the row would have to hold the rack.
 fn scan(rack: &mut Rack, progress: &mut Progress, words: &[u32], v: usize, i: usize, bar: u16)
     requires held { (Held low rack.old) × (Ordered (read low rack.old)) }
     requires v_bound { (v < (read low rack.old).n) × (i ≤ top_at rack.old) × (RowBelow i v (read low rack.old)) × (bar ≡ growth_at rack.old ^ i) }
@@ -168,7 +170,7 @@ fn take(rack: &mut Rack, progress: &mut Progress, words: &[u32], v: usize, i: us
 }
 
 // "Among waiting boards of the highest level, the one that has waited at that level longest is taken": of the highest rank among those that wait,
-// the first.
+// the first. Nobody of rank 0 waits, so that it stands for none yet.
 fn pick(rack: &Rack, waiting: &[u16]) -> Option<Next>
     requires held { Held low rack.now }
     requires inside { All (λ v. v < (read low rack.now).n) waiting.now }

@@ -16,7 +16,7 @@ use Rattle.model.proofs.Shapes.{low-good}
 use Rattle.layout.proofs.Walks.{row-whole}
 use Rattle.layout.proofs.Reached.{reached, further-less}
 use Rattle.moves.proofs.CountWalk.{Counted, counted-rank, counted-phi, Walk, u-small, row-starts, w-reached, w-small, w-owned, row-goes-on, row_ends, row_low, lowered-quiet, lowered-turn}
-use Rattle.moves.proofs.lower_counts.Goals.{After-place-w, After-rank-r, At-loop-at, In-loop-at, Joined-r-from, Start, else-r-from, then-r-from}
+use Rattle.moves.proofs.lower_counts.Goals.{After-place-w, After-rank-r, At-loop-at, In-loop-at, After-step_counts, Start}
 use Rattle.moves.proofs.lower_counts.Goals as goal
 
 walk : (d : Start)
@@ -79,59 +79,48 @@ counted c x p q r =
       hit-counted s c.requires.held.proper a.i a.u w x there,
     )
 
--- after either branch w has its new counts
-turned : (c : Joined-r-from)
+-- after the step w has its new counts
+turned : (c : After-step_counts)
     → let a = c.args in
-    let w = c.place-w.result in Counted (state (goal.at.Joined-r-from c).At-loop-at)
-    (upd c.loop-at.invariant.counts w (lowered_counts (state (goal.at.Joined-r-from c).At-loop-at) a.i a.u w)) c.if-r-from.rack
+    let w = c.place-w.result in Counted (state (goal.at.After-step_counts c).At-loop-at)
+    (upd c.loop-at.invariant.counts w (lowered_counts (state (goal.at.After-step_counts c).At-loop-at) a.i a.u w)) c.step_counts.new.rack
 turned c =
     let a = c.args in
     let l = c.loop-at in
-    let from : ℕ = c.rank-from.result in
-    let f = from_is (goal.at.Joined-r-from c).At-loop-at in
-    let r = rank_is (goal.at.Joined-r-from c).After-rank-r in
-    let b = rank-low (goal.at.Joined-r-from c).After-place-w in
+    let f = from_is (goal.at.After-step_counts c).At-loop-at in
+    let r = rank_is (goal.at.After-step_counts c).After-rank-r in
+    let b = rank-low (goal.at.After-step_counts c).After-place-w in
+    let m = c.max-j.ensures in
     let under = c.requires.u_bound in
-    let s = state (goal.at.Joined-r-from c).At-loop-at in
-    let at = place (goal.at.Joined-r-from c).After-place-w in
-    let few = small (goal.at.Joined-r-from c).After-place-w in
-    let step = lowered-turn s c.requires.held.proper a.i a.u l.rack l.at l.invariant c.place-w.result c.if-r-from.rack at few under.2
-    (owned (goal.at.Joined-r-from c).After-place-w) in
-    elim c.if-r-from.branch [
-      | then-r-from k ↦ step from (omega arith) (omega (arith, k.if-r-from.true)) (λ x c q. omega arith) (omega arith)
-          (k.rack-is ∙ k.step_counts.ensures)
-      | else-r-from k ↦ step c.rank-r.result (omega (arith, k.if-r-from.false)) (omega arith) (λ x c q. omega arith) (omega arith)
-          (k.rack-is ∙ k.step_counts-else-r-from.ensures)
-    ]
+    let s = state (goal.at.After-step_counts c).At-loop-at in
+    let at = place (goal.at.After-step_counts c).After-place-w in
+    let few = small (goal.at.After-step_counts c).After-place-w in
+    lowered-turn s c.requires.held.proper a.i a.u l.rack l.at l.invariant c.place-w.result c.step_counts.new.rack at few under.2
+    (owned (goal.at.After-step_counts c).After-place-w) c.max-j.result
+    (omega arith) (omega arith) (λ x p q. omega arith) (omega arith) c.step_counts.ensures
 
 pub loop-at-init : goal.loop-at-init
 loop-at-init c = row-starts (walk (goal.at.loop-at-init c).Start) c.first-at.ensures
 
 pub overflow_sub-i : goal.overflow_sub-i
-overflow_sub-i c = omega (arith, from_is (goal.at.overflow_sub-i c).At-loop-at)
+overflow_sub-i c =
+    omega (
+      arith,
+      from_is (goal.at.overflow_sub-i c).At-loop-at,
+      rank_is (goal.at.overflow_sub-i c).After-rank-r,
+      rank-low (goal.at.overflow_sub-i c).After-place-w,
+      c.max-j.ensures,
+    )
 
 pub step_counts-requires : goal.step_counts-requires
-step_counts-requires c = let r = rank_is (goal.at.step_counts-requires c).After-rank-r in
+step_counts-requires c =
+    let r = rank_is (goal.at.step_counts-requires c).After-rank-r in
     let f = from_is (goal.at.step_counts-requires c).At-loop-at in
+    let b = rank-low (goal.at.step_counts-requires c).After-place-w in
+    let m = c.max-j.ensures in
     record {
       w_lt_most = (small (goal.at.step_counts-requires c).After-place-w, omega (arith, level (goal.at.step_counts-requires c).At-loop-at));
-      by_index = λ x a b. counted (goal.at.step_counts-requires c).After-place-w x a (omega arith) (omega arith);
-    }
-
-pub overflow_sub-i-else-r-from : goal.overflow_sub-i-else-r-from
-overflow_sub-i-else-r-from c = omega
-    (arith, rank_is (goal.at.overflow_sub-i-else-r-from c).After-rank-r, rank-low (goal.at.overflow_sub-i-else-r-from c).After-place-w)
-
-pub step_counts-requires-else-r-from : goal.step_counts-requires-else-r-from
-step_counts-requires-else-r-from c = let r = rank_is (goal.at.step_counts-requires-else-r-from c).After-rank-r in
-    let b = rank-low (goal.at.step_counts-requires-else-r-from c).After-place-w in
-    record {
-      w_lt_most = (
-        small (goal.at.step_counts-requires-else-r-from c).After-place-w,
-        omega
-            (arith, level (goal.at.step_counts-requires-else-r-from c).At-loop-at),
-      );
-      by_index = λ x a b. counted (goal.at.step_counts-requires-else-r-from c).After-place-w x (omega arith) (omega arith) (omega arith);
+      by_index = λ x a b. counted (goal.at.step_counts-requires c).After-place-w x (omega arith) (omega arith) (omega arith);
     }
 
 pub loop-at-smaller : goal.loop-at-smaller
@@ -146,7 +135,7 @@ loop-at-smaller c = let here = c.loop-at.invariant.here (some (goal.at.loop-at-s
 
 pub loop-at-preserved : goal.loop-at-preserved
 loop-at-preserved c = row-goes-on (walk (goal.at.loop-at-preserved c).Start) c.loop-at.invariant
-    (some (goal.at.loop-at-preserved c).In-loop-at) c.place-w.ensures (turned (goal.at.loop-at-preserved c).Joined-r-from) c.next-at.ensures
+    (some (goal.at.loop-at-preserved c).In-loop-at) c.place-w.ensures (turned (goal.at.loop-at-preserved c).After-step_counts) c.next-at.ensures
 
 pub returns : goal.returns
 returns c = row_ends (walk (goal.at.returns c).Start) c.loop-at.invariant c.loop-at-test.false

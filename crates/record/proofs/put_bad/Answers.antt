@@ -1,11 +1,8 @@
--- `record::put_bad` meets its contract: what the pen wrote, one piece after the other. Assumes nothing.
-use Rattle.std.proofs.Common.{rules, refl}
+-- `record::put_bad` meets its contract: the line of its number and its line. Assumes nothing.
+use Rattle.std.proofs.Common.{ap₂}
 use Rattle.model.specs.Run.{bad_line}
-use Rattle.record.proofs.Pens.{◌then◌, figure-as, put-of}
+use Rattle.text.proofs.Over.{put_as}
 use Rattle.record.proofs.put_bad.Goals as goal
 
 pub returns : goal.returns
-unfolding bad_line
-returns c =
-    put-of refl (c.literal.ensures then figure-as c.from.ensures c.number.ensures.adds then c.literal-2.ensures
-    then figure-as c.line-line.ensures c.number-2.ensures.adds then c.literal-3.ensures) (search rules)
+returns c = put_as _ _ (ap₂ bad_line c.from.ensures c.line.ensures) c.put_bad_line.ensures
