@@ -216,15 +216,21 @@ module _ {S : Shape} {bs : List ℕ} (ok : Sounded S bs) {a b : ℕ} (ends : (a 
       loose : k ≢ b → (read S bs).mate a ≢ b
       loose d = entry-not (read S bs) a b ends.2 (λ e. d (entry ∙ e))
 
-    -- the mate that is read is b, or it is not
-    pub mate-joins : (m : Option ℕ) → MateIs (mate_at S bs a) m → not (option_eq eqb m (Some b)) ≡ false → Joins (read S bs) a b
-    mate-joins None i e = (cc)
-    mate-joins (Some x) i e = elim (eq? x b) [ inl f ↦ joins i.0 f | inr d ↦ let f = ap not (eqb_no x b d) in cc ]
+    -- the mate that is read is b, which is what it is held to, or it is not
+    joining : (m : Option ℕ) → MateIs (mate_at S bs a) m → not (option_eq eqb m (Some b)) ≡ false → Joins (read S bs) a b
+    joining None i e = (cc)
+    joining (Some x) i e = elim (eq? x b) [ inl f ↦ joins i.0 f | inr d ↦ let f = ap not (eqb_no x b d) in cc ]
 
-    pub mate-loose : (m : Option ℕ) → MateIs (mate_at S bs a) m → not (option_eq eqb m (Some b)) ≡ true → (read S bs).mate a ≢ b
-    mate-loose None i e =
+    parting : (m : Option ℕ) → MateIs (mate_at S bs a) m → not (option_eq eqb m (Some b)) ≡ true → (read S bs).mate a ≢ b
+    parting None i e =
         let h = sounded-held bs ok in loose refl (λ z. omega (arith, held_small h b ends.1, ok.kind.shape.named))
-    mate-loose (Some x) i e = loose i.0 (λ z. let f = ap not (eqb_yes x b z) in cc)
+    parting (Some x) i e = loose i.0 (λ z. let f = ap not (eqb_yes x b z) in cc)
+
+    pub mate-joins : (m x : Option ℕ) → x ≡ Some b → MateIs (mate_at S bs a) m → not (option_eq eqb m x) ≡ false → Joins (read S bs) a b
+    mate-joins m x f i e = joining m i (subst (λ (y : Option ℕ). not (option_eq eqb m y) ≡ false) f e)
+
+    pub mate-loose : (m x : Option ℕ) → x ≡ Some b → MateIs (mate_at S bs a) m → not (option_eq eqb m x) ≡ true → (read S bs).mate a ≢ b
+    mate-loose m x f i e = parting m i (subst (λ (y : Option ℕ). not (option_eq eqb m y) ≡ true) f e)
 
     -- its level, once its rank is read
     pub pair-rank : {k : ℕ} → k ≡ rank_at bs a → Joins (read S bs) a b → ((read S bs).rank a ≡ k) × (1 ≤ k)

@@ -81,7 +81,7 @@ pub fn change(
     ensures { ChangeIs low bytes.old (brought code a b words.now) result bytes.new }
 {
     let Some(rack) = bytes.as_mut_array() else {
-        return Err(Refusal::RackLength);
+        return Err(Refusal::RackLength); // "with all other figures 0"
     };
     check_sound(rack)?;
     changes::change(rack, code, a, b, words)

@@ -1,6 +1,7 @@
 -- The lines of a record by their figures. That a state's lines in `model` are these is a law (proofs/Laws.antt). Assumes nothing.
 use Rattle.std.specs.Prelude.{List, ◌++◌, ℕ, Option, None, Some}
 use Rattle.model.specs.Text.{bytes, decimal}
+use Rattle.model.specs.Change.{Answer}
 use Rattle.model.specs.Record.{Mean}
 use Rattle.calls.specs.declared.Settings.{Settings}
 
@@ -15,6 +16,10 @@ one_text p x e = p ++ (decimal x ++ e)
 
 unfoldable pub three_text : List ℕ → ℕ → List ℕ → ℕ → List ℕ → ℕ → List ℕ → List ℕ
 three_text p x q y r z e = p ++ (decimal x ++ (q ++ (decimal y ++ (r ++ (decimal z ++ e)))))
+
+-- an answer by its figures
+abbrev pub answered : ℕ → ℕ → ℕ → ℕ → Answer
+answered number draws falls pairs = record { number = number; draws = draws; falls = falls; pairs = pairs }
 
 -- the line of a change made
 abbrev pub done_text : ℕ → ℕ → ℕ → List ℕ

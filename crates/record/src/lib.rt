@@ -12,7 +12,7 @@ ghost use Rattle.text.specs.Writing.{Put};
 ghost use Rattle.text.specs.Rooms.{short_room, answer_room, pair_room, end_room, bad_room};
 ghost use Rattle.calls.specs.Terms.{number_of, line_of, told, named_by};
 ghost use Rattle.record.specs.Pen.{Adds};
-ghost use Rattle.record.specs.Line.{settings_room, done_text, refused_text, pair_text, mean_of};
+ghost use Rattle.record.specs.Line.{settings_room, answered, done_text, refused_text, pair_text, mean_of};
 
 mod pen;
 
@@ -48,15 +48,33 @@ fn put_settings(pen: &mut Pen, settings: Option<Settings>)
     }
 }
 
-// Writes the line of a change: `(done (draws D) (falls F) (pairs P))` with its figures, or `(refused K)` with the refusal's number.
-pub fn put_answer(out: &mut [u8], answer: Result<Figures, Refusal>) -> usize
+// Writes the line of a change by its number: `(done (draws D) (falls F) (pairs P))` for 0, else `(refused K)`.
+pub fn put_answer(out: &mut [u8], number: u32, draws: u32, falls: u32, pairs: u32) -> usize
+    requires { answer_room ≤ length out.old }
+    ensures { Put (answer_line (answered number draws falls pairs)) out.old out.new result }
+{
+    if number == 0 {
+        let draws = u64::from(draws);
+        let figures = Figures {
+            draws,
+            falls,
+            pairs,
+        };
+        put_done(out, figures)
+    } else {
+        put_refused(out, number)
+    }
+}
+
+// The same of what a change answers: 0 with its figures, or the refusal's number.
+pub fn put_outcome(out: &mut [u8], answer: Result<Figures, Refusal>) -> usize
     requires room { answer_room ≤ length out.old }
     requires draws_fit { (told answer).draws ≤ largest }
     ensures { Put (answer_line (told answer)) out.old out.new result }
 {
     match answer {
-        Ok(figures) => put_done(out, figures),
-        Err(why) => put_refused(out, u32::from(why)),
+        Ok(figures) => put_answer(out, 0, figures.draws as u32, figures.falls, figures.pairs),
+        Err(why) => put_answer(out, u32::from(why), 0, 0, 0),
     }
 }
 
@@ -129,17 +147,8 @@ pub fn put_blank(out: &mut [u8]) -> usize
     text::put_literal(out, b"(end (pairs 0))\n")
 }
 
-// Writes the line of a run that was turned back.
-pub fn put_bad(out: &mut [u8], why: Refusal) -> usize
-    requires room { bad_room ≤ length out.old }
-    requires line_fits { line_of why ≤ largest }
-    ensures { Put (bad_line (number_of why) (line_of why)) out.old out.new result }
-{
-    put_bad_line(out, u32::from(why), why.line() as u32)
-}
-
-// The same of any number and line.
-pub fn put_bad_line(out: &mut [u8], number: u32, line: u32) -> usize
+// Writes the line of a run that was turned back, of any number and line.
+pub fn put_bad(out: &mut [u8], number: u32, line: u32) -> usize
     requires { bad_room ≤ length out.old }
     ensures { Put (bad_line number line) out.old out.new result }
 {
@@ -150,4 +159,13 @@ pub fn put_bad_line(out: &mut [u8], number: u32, line: u32) -> usize
     pen.number(line);
     pen.literal(b")\n");
     pen.at
+}
+
+// The same of the reason.
+pub fn put_turned_back(out: &mut [u8], why: Refusal) -> usize
+    requires room { bad_room ≤ length out.old }
+    requires line_fits { line_of why ≤ largest }
+    ensures { Put (bad_line (number_of why) (line_of why)) out.old out.new result }
+{
+    put_bad(out, u32::from(why), why.line() as u32)
 }

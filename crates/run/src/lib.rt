@@ -90,7 +90,7 @@ fn put_change(rack: &mut Rack, line: Line, words: &[u32], out: &mut [u8]) -> usi
     // A change takes any code, and tells 7 of one that is no kind's.
     let code = u32::from(line.kind);
     let answer = changes::change(rack, code, line.a, line.b, words);
-    record::put_answer(out, answer)
+    record::put_outcome(out, answer)
 }
 
 // A trace that was read: what its line 1 says, and the heads and the words of its changes, as they are kept.
@@ -186,6 +186,6 @@ pub fn show(bytes: &mut [u8], text: &[u8], space: &mut [u8]) -> usize
 {
     match run(bytes, text, space) {
         Ok(length) => length,
-        Err(why) => record::put_bad(space, why),
+        Err(why) => record::put_turned_back(space, why),
     }
 }

@@ -3,16 +3,17 @@ use mathlib.Core.Path.{◌≡◌, sym, ap, ◌∙◌}
 use mathlib.Core.Logic.{◌≢◌}
 use mathlib.Core.List.{[]}
 use Prim.Native.Nat.{ℕ, ◌<◌}
+use native.Mathlib.Omega.{arith}
 use Rattle.std.proofs.lemmas.Result.{err_from_is_err_and}
 use Rattle.model.specs.Shape.{low}
 use Rattle.model.specs.State.{State, edge}
 use Rattle.model.specs.Bytes.{read}
 use Rattle.model.specs.Change.{Change}
 use Rattle.moves.proofs.Held.{held_small, held-size}
-use Rattle.calls.specs.Terms.{number_of}
+use Rattle.calls.specs.Terms.{code_of, number_of}
 use Rattle.changes.specs.Sounded.{brought, ends_number, link_number}
 use Rattle.changes.proofs.Numbers.{ends-are, early-code, early-ends, early-link, some-number, edge-held}
-use Rattle.changes.proofs.check.Goals.{After-linked-there, After-size, In_ok-check_ends, Start}
+use Rattle.changes.proofs.check.Goals.{After-linked-there, After-size, In_ok-check_ends, In_ok-kind, Start}
 use Rattle.changes.proofs.check.Goals as goal
 
 -- the state, and the change that is given
@@ -35,17 +36,22 @@ ends : (c : In_ok-check_ends) →
     let d = (goal.at.In_ok-check_ends c).Start in (d.args.a < (state d).n) × (d.args.b < (state d).n) × (d.args.a ≢ d.args.b)
 ends c = ends-are _ _ _ (sym (none-named c))
 
+-- the kind that the code stands for
+kind-is : (c : In_ok-kind) → c.args.code ≡ code_of c.in_ok-kind.kind
+kind-is c = omega (arith, c.in_ok-kind.ensures)
+
 pub returns-in_err-kind : goal.returns-in_err-kind
 returns-in_err-kind c = let d = (goal.at.returns-in_err-kind c).Start in
     let p = err_from_is_err_and c.from_residual.result c.from_residual.ensures.1 in
     rw (p.1, p.2)
-    (early-code (state d).n (edge (state d)) (given d) c.in_err-kind.ensures.0 ∙ sym (ap number_of c.in_err-kind.ensures.1))
+    (early-code (state d).n (edge (state d)) (given d) (λ kind e. c.in_err-kind.ensures.0 kind (omega (arith, e)))
+    ∙ sym (ap number_of c.in_err-kind.ensures.1))
 
 pub returns-in_err-check_ends : goal.returns-in_err-check_ends
 returns-in_err-check_ends c = let d = (goal.at.returns-in_err-check_ends c).Start in
     let p = err_from_is_err_and c.from_residual-in_err-check_ends.result c.from_residual-in_err-check_ends.ensures.1 in
     rw (p.1, p.2)
-    (early-ends (state d).n (edge (state d)) (given d) _ c.in_ok-kind.ensures _
+    (early-ends (state d).n (edge (state d)) (given d) _ (kind-is (goal.at.returns-in_err-check_ends c).In_ok-kind) _
     (c.in_err-check_ends.ensures ∙ numbered (goal.at.returns-in_err-check_ends c).After-size) (some-number _))
 
 pub linked-there-requires : goal.linked-there-requires
@@ -60,13 +66,14 @@ pub returns-in_err-check_link : goal.returns-in_err-check_link
 returns-in_err-check_link c = let d = (goal.at.returns-in_err-check_link c).Start in
     let p = err_from_is_err_and c.from_residual-in_err-check_link.result c.from_residual-in_err-check_link.ensures.1 in
     rw (p.1, p.2)
-    (early-link (state d).n (edge (state d)) (given d) c.in_ok-kind.kind c.in_ok-kind.ensures
+    (early-link (state d).n (edge (state d)) (given d) c.in_ok-kind.kind (kind-is (goal.at.returns-in_err-check_link c).In_ok-kind)
     (none-named (goal.at.returns-in_err-check_link c).In_ok-check_ends)
     ∙ sym (c.in_err-check_link.ensures ∙ ap (link_number c.in_ok-kind.kind) (there (goal.at.returns-in_err-check_link c).After-linked-there)))
 
 pub returns : goal.returns
-returns c = let d = (goal.at.returns c).Start in (
-  early-link (state d).n (edge (state d)) (given d) c.in_ok-kind.kind c.in_ok-kind.ensures (none-named (goal.at.returns c).In_ok-check_ends)
-      ∙ sym (c.in_ok-check_link.ensures ∙ ap (link_number c.in_ok-kind.kind) (there (goal.at.returns c).After-linked-there)),
-  c.in_ok-kind.ensures,
-)
+returns c = let d = (goal.at.returns c).Start in
+    let is = kind-is (goal.at.returns c).In_ok-kind in (
+      early-link (state d).n (edge (state d)) (given d) c.in_ok-kind.kind is (none-named (goal.at.returns c).In_ok-check_ends)
+          ∙ sym (c.in_ok-check_link.ensures ∙ ap (link_number c.in_ok-kind.kind) (there (goal.at.returns c).After-linked-there)),
+      is,
+    )

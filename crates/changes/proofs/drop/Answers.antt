@@ -4,6 +4,7 @@ use mathlib.Core.List.{List}
 use Prim.Native.Nat.{ℕ, ◌≤◌}
 use native.Mathlib.Omega.{arith}
 use lib.ListN.{length}
+use Rattle.std.proofs.Common.{rules}
 use Rattle.model.specs.Shape.{low}
 use Rattle.model.specs.Bytes.{rules_at, read}
 use Rattle.moves.proofs.Held.{held_small}
@@ -28,11 +29,11 @@ drop_edge-requires c = record { held = sounded-held c.args.rack.now c.requires.s
 pub returns-then-ne : goal.returns-then-ne
 returns-then-ne c = let x : Dropped low c.args.rack.now c.args.a c.args.b c.drop_edge.new.rack =
     record { from = c.requires.sounded; ends = c.requires.a_bound; rack = c.drop_edge.ensures } in
-    dropped-loose x c.args.words.now (mate-loose c.requires.sounded c.requires.a_bound _ c.mate.ensures (sym c.if-ne.ensures)) c.new.ensures
+    dropped-loose x c.args.words.now (mate-loose c.requires.sounded c.requires.a_bound _ _ (search rules) c.mate.ensures (sym c.if-ne.ensures)) c.new.ensures
 
 -- the edge joins mates
 mates : (c : Else-ne) → let a = c.args in Joins (read low a.rack.now) a.a a.b
-mates c = mate-joins c.requires.sounded c.requires.a_bound _ c.mate.ensures (sym c.if-ne.ensures)
+mates c = mate-joins c.requires.sounded c.requires.a_bound _ _ (search rules) c.mate.ensures (sym c.if-ne.ensures)
 
 pub rank-requires : goal.rank-requires
 rank-requires c = let h = sounded-held c.args.rack.now c.requires.sounded in

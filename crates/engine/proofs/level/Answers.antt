@@ -1,11 +1,9 @@
 -- `engine::level` meets its contract. Assumes nothing.
 use mathlib.Core.Path.{◌≡◌, ap, ◌∙◌}
 use mathlib.Core.List.{List}
-use Prim.Native.Nat.{ℕ, ◌<◌}
+use Prim.Native.Nat.{ℕ}
 use native.Mathlib.Omega.{arith}
 use lib.IntN.{ℤ, pos, pred_ℤ, ◌-ℤ◌}
-use mir.Syntax.{w32}
-use mir.Val.{to_z, of_z}
 use Rattle.std.proofs.Math.IntN.{ -ℤ_one}
 use Rattle.std.proofs.lemmas.Int.{ints}
 use Rattle.std.proofs.lemmas.Result.{err_from_is_err_and}
@@ -15,11 +13,9 @@ use Rattle.changes.proofs.Numbers.{some-number}
 use Rattle.engine.proofs.Numbers.{asked, level-back, level-is}
 use Rattle.engine.proofs.level.Goals as goal
 
--- one less than a rank, as the code computes it
-less_one : (z : ℤ) (x : ℕ) → z ≡ pos x → x < 256 → to_z w32 (of_z w32 (to_z w32 (of_z w32 z) -ℤ pos 1)) ≡ pred_ℤ (pos x)
-less_one z x e l =
-    let one : to_z w32 (of_z w32 (to_z w32 (of_z w32 z) -ℤ pos 1)) ≡ pos x -ℤ pos 1 = omega (arith, ints) in
-    one ∙ -ℤ_one (pos x)
+-- one less than a rank
+less_one : (z : ℤ) (x : ℕ) → z ≡ pos x -ℤ pos 1 → z ≡ pred_ℤ (pos x)
+less_one z x e = e ∙ -ℤ_one (pos x)
 
 pub returns-in_err-rack : goal.returns-in_err-rack
 returns-in_err-rack c = let p = err_from_is_err_and c.from_residual.result c.from_residual.ensures.1 in
@@ -31,5 +27,5 @@ rank-rank-requires c = record { v_lt_most = (asked low _ _ c.in_ok-rack.ensures.
 pub returns : goal.returns
 returns c = let e = c.in_ok-rack.ensures in
     let rank = c.rank-rank.ensures ∙ ap (λ (bs : List ℕ). rank_at bs c.args.v) e.0 in
-    let level = less_one c.from.result _ c.from.ensures c.rank-rank.type_inv ∙ ap (λ (x : ℕ). pred_ℤ (pos x)) rank in
+    let level = less_one _ _ (omega (arith, ints, c.from.ensures, c.rank-rank.type_inv)) ∙ ap (λ (x : ℕ). pred_ℤ (pos x)) rank in
     (λ i. record { number = 0; level = level i }) ∙ level-is low _ _ e.1

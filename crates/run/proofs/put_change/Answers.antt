@@ -7,7 +7,7 @@ use Rattle.run.proofs.Turns.{sounded-valid}
 use Rattle.run.proofs.put_change.Goals as goal
 
 -- the draws fit the record's figure
-pub put_answer-requires-clause-draws_fit : goal.put_answer-requires-clause-draws_fit
-put_answer-requires-clause-draws_fit c = let a = c.args in
+pub put_outcome-requires-clause-draws_fit : goal.put_outcome-requires-clause-draws_fit
+put_outcome-requires-clause-draws_fit c = let a = c.args in
     let few = draws-few _ (sounded-valid c.requires.sounded) (brought (code_of a.line.kind) a.line.a a.line.b a.words.now) c.requires.words_len_bound.0 in
     rw (c.change-answer.ensures.answers, c.from-code.ensures) (omega (arith, few))

@@ -1,8 +1,8 @@
 -- `run::run` meets its contract. Assumes nothing.
-use mathlib.Core.Path.{◌≡◌, refl, sym}
+use mathlib.Core.Path.{◌≡◌, refl, sym, subst}
 use mathlib.Core.Bool.{true}
-use Prim.Native.Nat.{◌≤◌}
-use lib.ListN.{length}
+use Prim.Native.Nat.{ℕ, ◌≤◌}
+use lib.ListN.{length, take}
 use lib.Seq.{length-take-le}
 use Rattle.std.specs.Prelude.{None, Some, Ok}
 use native.Mathlib.Omega.{arith}
@@ -13,6 +13,7 @@ use Rattle.model.specs.Run.{rack-length, text-long, space-short}
 use Rattle.calls.specs.declared.Refusal.TheVariants.{RackLength}
 use Rattle.trace.specs.Check.{Checks}
 use Rattle.trace.proofs.ReadLoop.{refused}
+use Rattle.run.specs.Recording.{IsKept, Recordable, trace_of}
 use Rattle.run.proofs.Whole.{Lent, no_rack, whole-rack, turned-bad, took-blank, heads-within, is-kept, recordable, took}
 use Rattle.run.proofs.run.Goals.{In_ok-rack, In-Some, Else-space-lt-RECORD_SPACE}
 use Rattle.run.proofs.run.Goals as goal
@@ -56,18 +57,21 @@ within : (c : In-Some) → c.in-Some.found.changes ≤ length c.read.new.heads
 within c = heads-within c.read.new.heads c.read.new.words c.in-Some.found (lent (goal.at.In-Some c).Else-space-lt-RECORD_SPACE) (checked c)
 
 pub slice_bounds-heads-end : goal.slice_bounds-heads-end
-slice_bounds-heads-end c = within (goal.at.slice_bounds-heads-end c).In-Some
+slice_bounds-heads-end c = omega (arith, within (goal.at.slice_bounds-heads-end c).In-Some)
 
 pub slice_bounds-trace-end : goal.slice_bounds-trace-end
-slice_bounds-trace-end c = sym (length-take-le c.in-Some.found.changes c.read.new.heads (within (goal.at.slice_bounds-trace-end c).In-Some))
+slice_bounds-trace-end c = sym (length-take-le _ c.read.new.heads (omega (arith, within (goal.at.slice_bounds-trace-end c).In-Some)))
 
 pub invariant_of-trace : goal.invariant_of-trace
 invariant_of-trace c = let d = (goal.at.invariant_of-trace c).In-Some in
-    is-kept c.read.new.heads c.read.new.words c.in-Some.found (lent (goal.at.In-Some d).Else-space-lt-RECORD_SPACE) (checked d)
+    subst (λ (k : ℕ). IsKept (take k c.read.new.heads) c.read.new.words) {x = c.in-Some.found.changes} (omega arith)
+    (is-kept c.read.new.heads c.read.new.words c.in-Some.found (lent (goal.at.In-Some d).Else-space-lt-RECORD_SPACE) (checked d))
 
 pub taken-requires : goal.taken-requires
 taken-requires c = let d = (goal.at.taken-requires c).In-Some in
-    recordable c.read.new.heads c.read.new.words c.in-Some.found (lent (goal.at.In-Some d).Else-space-lt-RECORD_SPACE) (checked d)
+    let x = c.in-Some.found in
+    subst (λ (k : ℕ). Recordable (trace_of x.n x.settings (take k c.read.new.heads) c.read.new.words) (length c.args.space.now)) {x = x.changes} (omega arith)
+    (recordable c.read.new.heads c.read.new.words x (lent (goal.at.In-Some d).Else-space-lt-RECORD_SPACE) (checked d))
 
 pub returns-in-None : goal.returns-in-None
 returns-in-None c = let d = (goal.at.returns-in-None c).Else-space-lt-RECORD_SPACE in
