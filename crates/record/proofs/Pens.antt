@@ -1,9 +1,12 @@
 -- The law of pens: what is added after what was added before is added as one text. Assumes nothing.
-use Rattle.std.proofs.Common.{subst, [], refl, sym, add-zero, ◌≡◌, ℕ, ◌+◌, ◌-◌, ◌≤◌, List, ◌++◌, length, ap, ◌∙◌, arith, length-append}
+use Rattle.std.proofs.Common.{subst, Option, [], refl, sym, add-zero, ◌≡◌, ℕ, ◌+◌, ◌-◌, ◌≤◌, List, ◌++◌, length, ap, ◌∙◌, arith, length-append}
 use borrow.Rule.Slice.PartMut.{put_mid}
 use Rattle.model.specs.Text.{over, decimal}
+use Rattle.model.specs.Trace.{settings_text}
 use Rattle.text.specs.Writing.{Put}
 use Rattle.text.proofs.Over.{over_none, part, put-at, over-over, length_over}
+use Rattle.calls.specs.declared.Settings.{Settings}
+use Rattle.calls.specs.Terms.{named_by}
 use Rattle.record.specs.Pen.{Adds}
 use Rattle.record.specs.declared.pen.Pen.{Pen}
 
@@ -32,6 +35,10 @@ added-none {a} fits =
 -- a figure, said of an equal number
 pub figure-as : {x y : ℕ} {a b : Pen} → x ≡ y → Adds (decimal x) a b → Adds (decimal y) a b
 figure-as {x} {y} {a} {b} e h = subst (λ (z : ℕ). Adds (decimal z) a b) e h
+
+-- the settings of line 1, said of equal ones
+pub settings-as : {x y : Option Settings} {a b : Pen} → Adds (settings_text (named_by x)) a b → x ≡ y → Adds (settings_text (named_by y)) a b
+settings-as {x} {y} {a} {b} h e = subst (λ (z : Option Settings). Adds (settings_text (named_by z)) a b) e h
 
 -- what a writer wrote at the start of the rest of the bytes
 pub added : {p last : List ℕ} {k : ℕ} {a b : Pen} → Put p (part a.at a.out.now) last k → a.at + length p ≤ length a.out.now

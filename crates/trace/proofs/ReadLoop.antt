@@ -1,5 +1,6 @@
 -- The loop of `trace::read`, through which one reader goes, without the code's run.
 --     Read             the lines read so far are line 1 and some changes, which are kept
+--     rack-holds       it holds after line 1, or that is the first that doesn't fit
 --     started, more    it holds after line 1, and after one line more
 --     done             where the loop is left, the text holds a trace
 --     first-bad, next-bad    a line that was not read is the first that doesn't fit
@@ -58,6 +59,16 @@ started heads words f = record {
 
 pub first-bad : {text : List ℕ} → 0 < length text → RackAt text 0 None → FirstBad (lines_of text) 1
 first-bad {text} some f = bad-rack text some f
+
+-- by what was read as line 1
+abbrev pub AfterRack : List ℕ → List Line → List ℕ → Option (FirstLine × ℕ) → Type 0
+AfterRack text heads words None = FirstBad (lines_of text) 1
+AfterRack text heads words (Some (first, at)) = Read text first heads words at 0 0
+
+pub rack-holds : (text : List ℕ) (heads : List Line) (words : List ℕ) (r : Option (FirstLine × ℕ)) → 0 < length text → RackAt text 0 r
+    → AfterRack text heads words r
+rack-holds text heads words None some f = first-bad some f
+rack-holds text heads words (Some (first, at)) some f = started heads words f
 
 module _ {text : List ℕ} {first : FirstLine} {heads : List Line} {words : List ℕ} {at n m : ℕ} (r : Read text first heads words at n m) where
   -- one line more

@@ -8,12 +8,13 @@ use Rattle.std.specs.Prelude.{None, Some, Ok}
 use native.Mathlib.Omega.{arith}
 use Rattle.std.proofs.lemmas.Result.{err_from_is_err_and}
 use Rattle.model.specs.Shape.{low}
-use Rattle.model.specs.Calls.{sized}
+use Rattle.model.specs.Calls.{sized, asked_number}
+use Rattle.model.specs.Record.{kind_of}
 use Rattle.model.specs.Run.{rack-length, text-long, space-short}
 use Rattle.calls.specs.declared.Refusal.TheVariants.{RackLength}
 use Rattle.trace.specs.Check.{Checks}
 use Rattle.trace.proofs.ReadLoop.{refused}
-use Rattle.run.specs.Recording.{IsKept, Recordable, trace_of}
+use Rattle.run.specs.Recording.{IsKept, Recordable, Took, trace_of, told}
 use Rattle.run.proofs.Whole.{Lent, no_rack, whole-rack, turned-bad, took-blank, heads-within, is-kept, recordable, took}
 use Rattle.run.proofs.run.Goals.{In_ok-rack, In-Some, Else-space-lt-RECORD_SPACE}
 use Rattle.run.proofs.run.Goals as goal
@@ -81,5 +82,8 @@ returns-in-None c = let d = (goal.at.returns-in-None c).Else-space-lt-RECORD_SPA
 pub returns-in-Some : goal.returns-in-Some
 returns-in-Some c = let d = (goal.at.returns-in-Some c).In-Some in
     let g = (goal.at.In-Some d).Else-space-lt-RECORD_SPACE in
-    took c.read.new.heads c.read.new.words c.in-Some.found (lent g) (checked d)
-    (rw (whole (goal.at.Else-space-lt-RECORD_SPACE g).In_ok-rack).1 at c.taken.ensures)
+    let x = c.in-Some.found in
+    let ran : ℕ → Type 0 = λ k. let t = trace_of x.n x.settings (take k c.read.new.heads) c.read.new.words in
+    Took (asked_number (kind_of t) t.n) t c.args.bytes.now c.args.space.now (told c.taken.result) c.taken.new.rack c.taken.new.space in
+    took c.read.new.heads c.read.new.words x (lent g) (checked d)
+    (subst ran {y = x.changes} (omega arith) (rw (whole (goal.at.Else-space-lt-RECORD_SPACE g).In_ok-rack).1 at c.taken.ensures))

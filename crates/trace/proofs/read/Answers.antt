@@ -1,6 +1,6 @@
 -- `trace::read` meets its contract: each goal is a law of `ReadLoop`, said of the place where the reader stands. Assumes nothing.
-use Rattle.std.proofs.Common.{rules, length, ◌+◌, ◌<◌, ap, ◌∙◌, arith}
-use Rattle.trace.proofs.ReadLoop.{started, more, first-bad, next-bad, done, refused}
+use Rattle.std.proofs.Common.{rules, None, Some, length, ◌+◌, ◌<◌, ap, ◌∙◌, arith}
+use Rattle.trace.proofs.ReadLoop.{rack-holds, more, next-bad, done, refused}
 use Rattle.calls.specs.declared.Refusal.TheVariants.{Line}
 use Rattle.lines.specs.Clauses.{RackAt}
 use Rattle.reader.specs.Place.{ending_at, ChangeInto}
@@ -22,12 +22,13 @@ returns-in_err-n c =
     let e = refused c.first_line.result (Line 1) c.in_err-n.field-0.0 c.from_residual.result h.ok_part h.value c.from_residual.ensures.1 in
     let rack = rw h.ok_part at (rack-read (goal.at.returns-in_err-n c).After-first_line) in
     let some : 0 < length c.args.text.now = search rules in
-    rw e (first-bad some rack)
+    rw e (rack-holds c.args.text.now c.args.heads.now c.args.words.now None some rack)
 
 pub loop-reader-init : goal.loop-reader-init
 loop-reader-init c = record {
   same_text = ap (λ b. b.now) (c.first_line.ensures.1.0 ∙ c.new-reader.ensures.0);
-  read = started c.args.heads.now c.args.words.now (rw c.in_ok-n.ensures.ok_part at (rack-read (goal.at.loop-reader-init c).After-first_line));
+  read = rack-holds c.args.text.now c.args.heads.now c.args.words.now (Some _) (search rules)
+      (rw c.in_ok-n.ensures.ok_part at (rack-read (goal.at.loop-reader-init c).After-first_line));
 }
 
 pub returns-in_err-line : goal.returns-in_err-line
